@@ -1,7 +1,7 @@
 #!/usr/bin/env bash
 # Holds the picture of docs/ARCHITECTURE.md to crates.txt: both have the same layers, in one order, with the same crates, and a crate
-# stands on none of a line above its own. No two crates have a public type of one name. The last line is the sum, and the status is 1
-# where something differs.
+# stands on none of a line above its own. No two crates have a public type of one name, and each type that the page lists stands in its
+# crate. The last line is the sum, and the status is 1 where something differs.
 set -euo pipefail
 
 source "$(dirname "$(readlink -f "${BASH_SOURCE[0]}")")/../shared/count.sh"
@@ -39,5 +39,13 @@ types() {
     grep -rhoE --include='*.rt' '^ *pub (struct|enum|trait) [A-Za-z]+' "$root"/crates/*/src | awk '{ print $3 }'
 }
 is_same 'public types of one name' '' "$(types | sort | uniq -d)"
+
+while IFS='|' read -r _ crate named _; do
+    crate=${crate// /}
+    for type in $(grep -oE '`[A-Z][A-Za-z]*`' <<< "$named" | tr -d '`'); do
+        rows=$((rows + 1))
+        grep -qrE --include='*.rt' "(struct|enum|trait|type) $type\b|pub use .*\b$type\b" "$root/crates/$crate/src" || differs "there is no $type in $crate"
+    done
+done < <(grep -E '^\| bf_[a-z_]+ \| .*`[A-Z]' "$root/docs/ARCHITECTURE.md")
 
 sum

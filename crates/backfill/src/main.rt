@@ -4,7 +4,7 @@
 use bf_command_fault::Status;
 use bf_device::Output;
 use bf_disk::Disk;
-use bf_program::{answer, explain};
+use bf_program::{answer, explain_check};
 use bf_views::Canvas;
 use std::io::IsTerminal;
 use std::process::ExitCode;
@@ -18,7 +18,7 @@ For more information, try '--help'.";
 fn main(rt: HostRuntime) -> ExitCode {
     let words = match words(&rt) {
         Ok(words) => words,
-        Err(error) => return ExitCode::from(unread(&rt, &error).code()),
+        Err(error) => return ExitCode::from(tell_unreadable_words(&rt, &error).code()),
     };
     let mut files = Disk::new(&rt);
     let journals = Disk::new(&rt);
@@ -38,7 +38,7 @@ fn main(rt: HostRuntime) -> ExitCode {
     );
     if status == Status::Refused.code() {
         // What is wrong is told already, and where more can't be, nothing is left to say so on.
-        let _ = explain(rt.alloc(), &words, &mut files, &mut err);
+        let _ = explain_check(rt.alloc(), &words, &mut files, &mut err);
     }
     ExitCode::from(status)
 }
@@ -62,7 +62,7 @@ fn canvas(rt: &HostRuntime) -> Canvas {
 }
 
 /// Tells why the words can't be read. Where standard error fails, nothing is left to say so on.
-fn unread(rt: &HostRuntime, error: &io::Error) -> Status {
+fn tell_unreadable_words(rt: &HostRuntime, error: &io::Error) -> Status {
     if error.kind() == io::ErrorKind::InvalidData {
         let _ = eprintln!(rt; "{NOT_UTF8}");
         return Status::Refused;

@@ -40,7 +40,7 @@ fn push_index(text: &mut String, index: Option<usize>) -> Result<(), OutOfMemory
 }
 
 /// Begins the entry of a try, by what it names.
-fn push_named(
+fn push_entry_start(
     alloc: Global,
     text: &mut String,
     name: &InstanceName<'_>,
@@ -63,7 +63,7 @@ fn push_named(
 }
 
 /// Adds the entry of a try that ended with a status.
-fn push_status(
+fn push_status_entry(
     alloc: Global,
     text: &mut String,
     name: &InstanceName<'_>,
@@ -75,7 +75,7 @@ fn push_status(
         ++ entry_line (entry_at name.now.run.now name.now.task.now (number_of name.now.index)
         attempt status [])) }
 {
-    push_named(alloc, text, name, attempt)?;
+    push_entry_start(alloc, text, name, attempt)?;
     text.push_str(",\"status\":")?;
     write!(text, "{status}")?;
     text.push_str("}")?;
@@ -83,7 +83,7 @@ fn push_status(
 }
 
 /// Adds the entry of a try that pushed a value.
-fn push_pushed(
+fn push_value_entry(
     alloc: Global,
     text: &mut String,
     name: &InstanceName<'_>,
@@ -94,7 +94,7 @@ fn push_pushed(
         ++ entry_line (entry_at name.now.run.now name.now.task.now (number_of name.now.index)
         attempt 0 (json_of value.now))) }
 {
-    push_named(alloc, text, name, attempt)?;
+    push_entry_start(alloc, text, name, attempt)?;
     text.push_str(",\"out\":")?;
     push_string(alloc, text, text_of(alloc, value)?.as_str())?;
     text.push_str("}")?;
@@ -102,7 +102,7 @@ fn push_pushed(
 }
 
 /// Adds the entry of a try that failed.
-pub(crate) fn push_failed(
+pub(crate) fn push_failed_entry(
     alloc: Global,
     text: &mut String,
     name: &InstanceName<'_>,
@@ -112,11 +112,11 @@ pub(crate) fn push_failed(
         ++ entry_line (entry_at name.now.run.now name.now.task.now (number_of name.now.index)
         attempt 1 [])) }
 {
-    push_status(alloc, text, name, attempt, FAILED)
+    push_status_entry(alloc, text, name, attempt, FAILED)
 }
 
 /// Adds the entry by which a try ends so, if it takes one.
-pub(crate) fn push_ended(
+pub(crate) fn push_outcome_entry(
     alloc: Global,
     text: &mut String,
     name: &InstanceName<'_>,
@@ -129,8 +129,8 @@ pub(crate) fn push_ended(
 {
     match outcome {
         Outcome::Success(None) => Ok(()),
-        Outcome::Success(Some(value)) => push_pushed(alloc, text, name, attempt, value),
-        Outcome::Failed => push_failed(alloc, text, name, attempt),
-        Outcome::Skipped => push_status(alloc, text, name, attempt, SKIPPED),
+        Outcome::Success(Some(value)) => push_value_entry(alloc, text, name, attempt, value),
+        Outcome::Failed => push_failed_entry(alloc, text, name, attempt),
+        Outcome::Skipped => push_status_entry(alloc, text, name, attempt, SKIPPED),
     }
 }

@@ -23,7 +23,7 @@ ghost use Rattle.bf_answers.specs.Answers.{answers_in};
 ghost use Rattle.bf_answers.specs.Over.{answering, MayAnswer};
 ghost use Rattle.bf_answers.specs.TableText.{answers_text};
 
-use bf_moment::{long_form, moments_differ_in_text};
+use bf_moment::{long_form_is_what_is_written, moments_differ_in_text};
 
 /// What is written of a report that can be read is a table of just its entries, where it isn't too long for one.
 pub fn tables_are_read_back()
@@ -31,7 +31,7 @@ pub fn tables_are_read_back()
         → length (answers_text report) ≤ longest_table
         → table_in (answers_text report) ≡ Ok (answers_in report) }
 {
-    long_form();
+    long_form_is_what_is_written();
 }
 
 /// Over the table each try that the report tells of ends as it tells, where its task can end so.

@@ -4,7 +4,7 @@ ghost use Rattle.std.specs.List.{flat_map};
 ghost use Rattle.bf_answers.specs.Answers.{number_of, instance_entries, mapped_entries, retried_entries, run_entries, task_entries, tasks_entries};
 ghost use Rattle.bf_answers.specs.TableText.{answers_text, entry_lines};
 
-use crate::entry::{InstanceName, push_ended, push_failed};
+use crate::entry::{InstanceName, push_failed_entry, push_outcome_entry};
 use bf_moment::Moment;
 use bf_report::{InstanceReport, Report, RunReport, TaskReport};
 use bf_value::{OutOfMemory, Text};
@@ -22,7 +22,7 @@ fn push_retried(
         (number_of name.now.index) tries)) }
 {
     for attempt in 1..tries {
-        push_failed(alloc, text, name, attempt)?;
+        push_failed_entry(alloc, text, name, attempt)?;
     }
     Ok(())
 }
@@ -39,7 +39,7 @@ fn push_instance(
 {
     let ended = instance.result(alloc)?;
     push_retried(alloc, text, name, ended.tries)?;
-    push_ended(alloc, text, name, ended.tries, &ended.outcome)
+    push_outcome_entry(alloc, text, name, ended.tries, &ended.outcome)
 }
 
 fn push_mapped(
@@ -127,7 +127,7 @@ fn push_runs(
 }
 
 /// Puts the bracket that opens a list in the place of the first comma.
-fn opened(text: String) -> Vec<u8>
+fn with_opening_bracket(text: String) -> Vec<u8>
     requires { 0 < length (string_bytes text) }
     ensures { result.items ≡ 91 ∷ drop 1 (string_bytes text) }
 {
@@ -137,12 +137,12 @@ fn opened(text: String) -> Vec<u8>
 }
 
 /// The table that answers as a report tells.
-pub(crate) fn table_of(alloc: Global, report: &Report) -> Result<Vec<u8>, OutOfMemory>
+pub(crate) fn json_table_of(alloc: Global, report: &Report) -> Result<Vec<u8>, OutOfMemory>
     ensures { IfOk result (λ bytes. bytes.items ≡ answers_text report.now) }
 {
     let mut text = String::new(alloc);
     let (ids, runs) = (report.tasks.as_slice(), report.runs.as_slice());
     push_runs(alloc, &mut text, ids, runs)?;
     text.push_str("\n]\n")?;
-    Ok(opened(text))
+    Ok(with_opening_bracket(text))
 }

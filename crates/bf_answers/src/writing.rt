@@ -3,7 +3,7 @@ ghost use Rattle.std.specs.Prelude.{◌≡◌, ◌≤◌, length, take, OnOk, If
 ghost use Rattle.bf_device.specs.Device.{sent, HasHalted, HasGoneOn};
 ghost use Rattle.bf_answers.specs.TableText.{answers_text};
 
-use crate::table::table_of;
+use crate::table::json_table_of;
 use bf_device::{Cause, Write, WriteFault, send};
 use bf_report::Report;
 use std::alloc::Global;
@@ -27,7 +27,7 @@ pub fn write_answers<W: Write>(
         (W.interruptions out.old) (W.interruptions out.new)) }
     ensures memory { IfErr result (λ fault. fault.cause ≡ Cause.OutOfMemory → fault.sent ≡ 0) }
 {
-    match table_of(alloc, report) {
+    match json_table_of(alloc, report) {
         Ok(bytes) => send(out, bytes.as_slice()),
         Err(_) => Err(WriteFault {
             sent: 0,

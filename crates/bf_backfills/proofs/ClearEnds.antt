@@ -19,7 +19,7 @@ use Rattle.bf_planning.specs.declared.range.RunRange.{RunRange}
 use Rattle.bf_report_reader.specs.Reading.{IsReadAs}
 use Rattle.bf_commands.specs.Cleared.{ClearingFault, IsPrepared, IsReady, IsReportAfter, IsUncleared}
 use Rattle.bf_commands.specs.Journaled.{Heading, IsClearable, IsClearedBy, JournalReportFault, IsJournaledAfter}
-use Rattle.bf_commands.specs.OverTable.{is_alone_in}
+use Rattle.bf_commands.specs.OverTable.{is_single_threaded_in}
 use Rattle.bf_commands.specs.Planned.{IsClearPlan, ClearPlanFault}
 use Rattle.bf_process.specs.Words.{LaunchingOf}
 use Rattle.bf_commands.specs.Programs.{Hearing, Losing, launched_by, with_clocks}
@@ -111,7 +111,7 @@ module _ (may_lose : Losing) (files : Files) (machine : Machine) (asked : ClearA
       -- ---- where no journal is named
 
       module _ (none : asked.journal ≡ None) where
-        clear_again : (fault : CommandFault) → ClearingFault (is_alone_in asked.progress) (with_clocks (launching_asked_of asked.launcher asked.logs) clocks) may_lose answers dag found was what fault → IsClearFault may_lose files machine asked fault
+        clear_again : (fault : CommandFault) → ClearingFault (is_single_threaded_in asked.progress) (with_clocks (launching_asked_of asked.launcher asked.logs) clocks) may_lose answers dag found was what fault → IsClearFault may_lose files machine asked fault
         clear_again (Clear fault) is = clear_refused (Clear fault) is
         clear_again (Seeds fault) is = clear_refused (Seeds fault) is
         clear_again OutOfMemory is = clear_memory
@@ -226,7 +226,7 @@ module _ (may_lose : Losing) (files : Files) (machine : Machine) (asked : ClearA
       clear_unreported fault is = of_clearing fault (unreported files (clear_input asked) range dag found clocks answers readable what means_what said fault
           (subst (λ (f : Option (Option (List ℕ))). IsReportFault (string_bytes asked.report) f fault) stays is))
 
-      clear_going_on : asked.journal ≡ None → (fault : CommandFault) → IsFaultAfterFile (is_alone_in asked.progress) (with_clocks (launching_asked_of asked.launcher asked.logs) clocks) may_lose answers dag found (string_bytes asked.report) file what fault
+      clear_going_on : asked.journal ≡ None → (fault : CommandFault) → IsFaultAfterFile (is_single_threaded_in asked.progress) (with_clocks (launching_asked_of asked.launcher asked.logs) clocks) may_lose answers dag found (string_bytes asked.report) file what fault
           → IsClearFault may_lose files machine asked fault
       clear_going_on none fault (inl report) = clear_unreported fault report
       clear_going_on none fault (inr (was, is, again)) = clear_again (subst IsReadable stays is.readable) was (λ held told. is.says held (stays ∙ told)) none fault again
@@ -252,12 +252,12 @@ module _ (may_lose : Losing) (files : Files) (machine : Machine) (asked : ClearA
 
       -- whether a journal is named or not
       pub clear_faults : (launching : LaunchingOf) → launching ≡ launching_asked_of asked.launcher asked.logs → (fault : CommandFault)
-          → IsFaultAfterFileBy (is_alone_in asked.progress) (with_clocks launching clocks) may_lose machine.journals asked.journal answers dag found (string_bytes asked.report) file what fault
+          → IsFaultAfterFileBy (is_single_threaded_in asked.progress) (with_clocks launching clocks) may_lose machine.journals asked.journal answers dag found (string_bytes asked.report) file what fault
           → IsClearFault may_lose files machine asked fault
       clear_faults launching same fault is = go asked.journal refl
-          (subst (λ (l : LaunchingOf). IsFaultAfterFileBy (is_alone_in asked.progress) (with_clocks l clocks) may_lose machine.journals asked.journal answers dag found (string_bytes asked.report) file what fault) same is)
+          (subst (λ (l : LaunchingOf). IsFaultAfterFileBy (is_single_threaded_in asked.progress) (with_clocks l clocks) may_lose machine.journals asked.journal answers dag found (string_bytes asked.report) file what fault) same is)
         where
-          go : (o : Option JournalAsked) → asked.journal ≡ o → IsFaultAfterFileBy (is_alone_in asked.progress) (with_clocks (launching_asked_of asked.launcher asked.logs) clocks) may_lose machine.journals o answers dag found (string_bytes asked.report) file what fault
+          go : (o : Option JournalAsked) → asked.journal ≡ o → IsFaultAfterFileBy (is_single_threaded_in asked.progress) (with_clocks (launching_asked_of asked.launcher asked.logs) clocks) may_lose machine.journals o answers dag found (string_bytes asked.report) file what fault
               → IsClearFault may_lose files machine asked fault
           go None none is = clear_going_on none fault is
           go (Some journal) named is = recording_going_on journal named fault is

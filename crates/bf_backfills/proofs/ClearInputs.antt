@@ -25,8 +25,8 @@ use Rattle.bf_disk.specs.Source.{IsWholeUpTo}
 use Rattle.bf_input.specs.Inputs.{AreAlike, IsReportFault, OfFilesAndNamedTable, clear_paths}
 use Rattle.bf_backfills.specs.Commands.{ClearInput, MeanSeeds, MeansCleared, first_paths, seeds_named}
 use Rattle.bf_backfills.specs.CommandFaults.{IsFaultOfClearing, OfReadClearFiles}
-use Rattle.bf_backfills.specs.declared.named.Named.{Named}
-use Rattle.bf_backfills.specs.declared.named.Named.TheVariants as naming
+use Rattle.bf_backfills.specs.declared.named.UnreadToClear.{UnreadToClear}
+use Rattle.bf_backfills.specs.declared.named.UnreadToClear.TheVariants as naming
 use Rattle.bf_backfills.specs.Named.{IsReadFor, MeansNamed, path_of}
 use Rattle.bf_backfills.specs.Files.{IsOfBytes, IsPreparingFault}
 use Rattle.bf_backfills.proofs.Alike.{clocks_alike, fault_in, graph_of, listing_of}
@@ -68,7 +68,7 @@ module _ (read held : List ℕ) (one two : Option (List ℕ)) (alike : AreAlike 
 -- ---- what is named to be cleared
 
 -- the path that is named
-pub path_named : (asked : ClearedAsked) (named : Named) → MeansNamed asked named → path_of named ≡ seeds_named asked
+pub path_named : (asked : ClearedAsked) (named : UnreadToClear) → MeansNamed asked named → path_of named ≡ seeds_named asked
 path_named (asking.Seeds asked) (naming.Seeds seeds) means = refl
 path_named (asking.File path) (naming.File same) means = ap Some means
 path_named asking.Failed naming.Failed means = refl
@@ -87,7 +87,7 @@ path_named asking.Nothing (naming.File same) means = absurd means
 path_named asking.Nothing naming.Failed means = absurd means
 
 -- what was read for it is what the line means
-pub read_means : (files : Files) (asked : ClearedAsked) (named : Named) (what : ToClear) → MeansNamed asked named → IsReadFor files named what → MeansCleared files asked what
+pub read_means : (files : Files) (asked : ClearedAsked) (named : UnreadToClear) (what : ToClear) → MeansNamed asked named → IsReadFor files named what → MeansCleared files asked what
 read_means files (asking.Seeds asked) (naming.Seeds seeds) (to_clear.Seeds same) means is = subst (λ (v : Vec Seed Global). MeanSeeds asked.items v.items) (sym is) means
 read_means files (asking.File path) (naming.File same) (to_clear.File bytes) means is = subst (λ (p : List ℕ). IfSome (files p) (λ held. IsWholeUpTo 8_388_608 held bytes.items)) means is
 read_means files asking.Failed naming.Failed to_clear.Failed means is = tt
@@ -118,7 +118,7 @@ read_means files asking.Nothing (naming.File same) what means is = absurd means
 read_means files asking.Nothing naming.Failed what means is = absurd means
 
 -- reading other files leaves what is told of one
-pub read_stays : (before after : Files) (named : Named) (what : ToClear) → ((p : List ℕ) → after p ≡ before p) → IsReadFor after named what → IsReadFor before named what
+pub read_stays : (before after : Files) (named : UnreadToClear) (what : ToClear) → ((p : List ℕ) → after p ≡ before p) → IsReadFor after named what → IsReadFor before named what
 read_stays before after (naming.Seeds seeds) (to_clear.Seeds same) stays is = is
 read_stays before after (naming.File path) (to_clear.File bytes) stays is = subst (λ (o : Option (Option (List ℕ))). IfSome o (λ held. IsWholeUpTo 8_388_608 held bytes.items)) (stays (string_bytes path)) is
 read_stays before after naming.Failed to_clear.Failed stays is = tt
@@ -195,7 +195,7 @@ module _ (files : Files) (input : ClearInput) (range : RunRange) where
       uncleared fault is = absurd is
 
   -- by what is named to be cleared
-  module _ (named : Named) (means_named : MeansNamed input.cleared named) where
+  module _ (named : UnreadToClear) (means_named : MeansNamed input.cleared named) where
     pub named_readable : AreReadable files (clear_paths input.graph input.table (path_of named)) → AreReadable files (first_paths input)
     named_readable readable = subst (λ (o : Option (List ℕ)). AreReadable files (clear_paths input.graph input.table o)) (path_named input.cleared named means_named) readable
 

@@ -24,7 +24,7 @@ use Rattle.bf_command_fault.specs.Status.{of_runs}
 use Rattle.bf_planning.specs.declared.check.GraphSize.{GraphSize}
 use Rattle.bf_planning.specs.declared.range.RunRange.{RunRange}
 use Rattle.bf_commands.specs.DatedRuns.{DryFault, IsDryReport}
-use Rattle.bf_commands.specs.OverTable.{is_alone_in}
+use Rattle.bf_commands.specs.OverTable.{is_single_threaded_in}
 use Rattle.bf_planning.specs.Graphs.{IsFaultIn, IsGraph, IsSizeOf}
 use Rattle.bf_commands.specs.Journaled.{GoesWrong, JournalReportFault}
 use Rattle.bf_planning.specs.Lists.{HasListing, ListFault, IsListIn}
@@ -143,12 +143,12 @@ module _ {files : Files} (asked : DryAsked) (range : RunRange) (means : MeansRan
     text_is = λ graph other held are holds. (let same = bytes.alike graph other held are holds in report_in read graph zone held same.0 table other same.1 range text success is);
   }
 
-  pub dry_files : (fault : CommandFault) → DryFault (is_alone_in asked.progress) read zone table range fault → IsDryFault files asked fault
+  pub dry_files : (fault : CommandFault) → DryFault (is_single_threaded_in asked.progress) read zone table range fault → IsDryFault files asked fault
   dry_files BadMoment is = absurd is
   dry_files OutOfMemory is = (range, means, tt)
   dry_files (CannotRead path) is = absurd is
   dry_files (CannotWriteFile path) is = absurd is
-  dry_files fault is = (range, means, (bytes.readable, λ graph other held are holds. (let same = bytes.alike graph other held are holds in dry_fault read graph zone held same.0 table other same.1 (is_alone_in asked.progress) range fault is)))
+  dry_files fault is = (range, means, (bytes.readable, λ graph other held are holds. (let same = bytes.alike graph other held are holds in dry_fault read graph zone held same.0 table other same.1 (is_single_threaded_in asked.progress) range fault is)))
 
 -- ---- `run`
 

@@ -23,7 +23,7 @@ use Rattle.bf_planning.specs.Graphs.{IsFaultIn}
 use Rattle.bf_commands.specs.Journaled.{GoesWrong, GoesWrongClearing, IsClearable}
 use Rattle.bf_planning.specs.Lists.{HasListing, ListFault}
 use Rattle.bf_commands.specs.OneRun.{SingleFault}
-use Rattle.bf_commands.specs.OverTable.{is_alone_in}
+use Rattle.bf_commands.specs.OverTable.{is_single_threaded_in}
 use Rattle.bf_process.specs.Words.{LaunchingOf}
 use Rattle.bf_commands.specs.Programs.{Losing, RunFault}
 use Rattle.bf_disk.specs.Files.{Files, IsReadable, IsUntold, AreReadable, IsFirstUntold}
@@ -78,7 +78,7 @@ IsDryFault files asked fault =
     (range : RunRange) × MeansRange asked.range range
     × IsFaultOfFiles files (table_paths asked.graph (string_bytes asked.table))
     (OfFilesAndTable files asked.graph (string_bytes asked.table) (λ graph zone table.
-    DryFault (is_alone_in asked.progress) graph zone table range fault)) fault
+    DryFault (is_single_threaded_in asked.progress) graph zone table range fault)) fault
 
 -- runs lie in the range
 abbrev pub HasRuns : RunRange → List ℕ → Option (List ℕ) → Type 0
@@ -183,7 +183,7 @@ IsFaultOfClearing files input range fault = ⊥
 abbrev pub IsFaultOfClear : Losing → Files → ClearAsked → RunRange → CommandFault → Type 0
 IsFaultOfClear may_lose files asked range (Stopped stop) =
     OfReadClearFiles files (clear_input asked) (λ what graph zone table report.
-    StopsClearing (is_alone_in asked.progress)
+    StopsClearing (is_single_threaded_in asked.progress)
     (launching_asked_of asked.launcher asked.logs) may_lose graph zone table report range what
     stop)
 IsFaultOfClear may_lose files asked range fault =

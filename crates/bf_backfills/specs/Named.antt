@@ -8,14 +8,14 @@ use Rattle.bf_commands.specs.declared.cleared.ToClear.{ToClear}
 use Rattle.bf_commands.specs.declared.cleared.ToClear.TheVariants as to_clear
 use Rattle.bf_disk.specs.Files.{Files}
 use Rattle.bf_disk.specs.Source.{IsWholeUpTo}
-use Rattle.bf_backfills.specs.declared.named.Named.{Named}
-use Rattle.bf_backfills.specs.declared.named.Named.TheVariants as named
+use Rattle.bf_backfills.specs.declared.named.UnreadToClear.{UnreadToClear}
+use Rattle.bf_backfills.specs.declared.named.UnreadToClear.TheVariants as named
 use Rattle.bf_backfills.specs.Commands.{MeanSeeds}
 
 -- ---- before a file is read
 
 -- the texts mean this
-abbrev pub MeansNamed : ClearedAsked → Named → Type 0
+abbrev pub MeansNamed : ClearedAsked → UnreadToClear → Type 0
 MeansNamed (cleared.Seeds asked) (named.Seeds seeds) = MeanSeeds asked.items seeds.items
 MeansNamed (cleared.File path) (named.File same) = string_bytes same ≡ string_bytes path
 MeansNamed cleared.Failed named.Failed = Unit {0}
@@ -23,7 +23,7 @@ MeansNamed cleared.Nothing named.Nothing = Unit {0}
 MeansNamed _ _ = ⊥
 
 -- the path of the file, where one is named
-abbrev pub path_of : Named → Option (List ℕ)
+abbrev pub path_of : UnreadToClear → Option (List ℕ)
 path_of (named.File path) = Some (string_bytes path)
 path_of _ = None
 
@@ -36,7 +36,7 @@ IsUnmeant HasNone fault = ⊥
 -- ---- and where it was read
 
 -- this is to be cleared, by the file's bytes where one is named
-abbrev pub IsReadFor : Files → Named → ToClear → Type 0
+abbrev pub IsReadFor : Files → UnreadToClear → ToClear → Type 0
 IsReadFor files (named.Seeds seeds) (to_clear.Seeds same) = same ≡ seeds
 IsReadFor files (named.File path) (to_clear.File bytes) =
     IfSome (files (string_bytes path)) (λ held. IsWholeUpTo 8_388_608 held bytes.items)

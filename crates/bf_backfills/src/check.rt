@@ -10,7 +10,7 @@ use bf_command_fault::{CommandFault, Status};
 use bf_command_line::GraphAsked;
 use bf_device::{Write, send};
 use bf_disk::Source;
-use bf_input::graph_files;
+use bf_input::read_graph_files;
 use bf_planning::{GraphSize, check_graph};
 use bf_value::OutOfMemory;
 use std::alloc::Global;
@@ -23,7 +23,7 @@ fn size_line(alloc: Global, size: GraphSize) -> Result<String, OutOfMemory>
 }
 
 /// Reads the files and checks the graph, and prints the size of its graph.
-pub fn check_answered<S: Source, W: Write>(
+pub fn answer_check<S: Source, W: Write>(
     alloc: Global,
     asked: GraphAsked,
     files: &mut S,
@@ -38,7 +38,7 @@ pub fn check_answered<S: Source, W: Write>(
         (λ text. (status : Status) × IsCheckAnswer (S.file files.old) asked text status)
         (W.written out.old) (W.written out.new)) }
 {
-    let files = graph_files(alloc, asked, files)?;
+    let files = read_graph_files(alloc, asked, files)?;
     let size = check_graph(alloc, &files.graph, files.zone_file())?;
     let line = size_line(alloc, size)?;
     send(out, line.as_bytes())?;

@@ -4,7 +4,7 @@ ghost use Rattle.std.specs.Prelude.{◌≡◌, ℕ, Bool, List, IfOk, IfErr, OnO
 ghost use Rattle.bf_device.specs.Device.{HasHalted};
 ghost use Rattle.bf_table.specs.Tables.{table_in};
 ghost use Rattle.bf_commands.specs.Cleared.{IsPrepared};
-ghost use Rattle.bf_commands.specs.OverTable.{is_alone_in};
+ghost use Rattle.bf_commands.specs.OverTable.{is_single_threaded_in};
 ghost use Rattle.bf_process.specs.Words.{launching_of};
 ghost use Rattle.bf_planning.specs.Clocks.{clocks_in};
 ghost use Rattle.bf_commands.specs.Programs.{launched_in, with_clocks};
@@ -18,16 +18,20 @@ ghost use Rattle.bf_backfills.specs.Files.{IsFaultAfterFile, IsOfBytes, IsPrepar
 ghost use Rattle.bf_backfills.specs.Journals.{IsFaultAfterFileBy, IsFaultSinceFile, IsJournaledAfterFile, IsReportAfterFileBy};
 ghost use Rattle.bf_backfills.specs.Named.{IsReadFor, path_of};
 
-use crate::journaled::clear_recorded;
-use crate::launching::{launching_asked, look_at, path_named, tells_of};
-use crate::named::{Named, named_in, to_clear};
+use crate::journaled::record_clearing;
+use crate::launching::{
+    launching_asked, path_named, refuse_unstartable_launcher, tells_by_options,
+};
+use crate::named::{UnreadToClear, read_to_clear, to_clear_asked};
 use crate::range::range_of;
 use bf_command_fault::{CommandFault, Status};
 use bf_command_line::{ClearAsked, GraphAsked, JournalAsked};
-use bf_commands::{Crew, Prepared, Screen, ToClear, clear_in, prepare, run_again};
+use bf_commands::{
+    Crew, Prepared, Screen, ToClear, clear_in_report, prepare_backfill, write_resumed_report,
+};
 use bf_device::Write;
 use bf_disk::{Journals, Launchers, Source};
-use bf_input::{GraphFiles, graph_files, named_table_bytes, report_in};
+use bf_input::{GraphFiles, read_graph_files, read_named_table, read_report_file};
 use bf_planning::RunRange;
 use bf_process::Starter;
 use std::alloc::Global;
@@ -63,11 +67,11 @@ impl ClearFiles {
 }
 
 /// Reads the graph file, and where they are named, in this order, the zone file, the table and the seeds file.
-fn clear_files<S: Source>(
+fn read_clear_files<S: Source>(
     alloc: Global,
     graph: GraphAsked,
     table: Option<String>,
-    named: Named,
+    named: UnreadToClear,
     files: &mut S,
 ) -> Result<ClearFiles, CommandFault>
     ensures alike { IfOk result (λ f. OfFilesAndNamedTable (S.file files.old) graph
@@ -82,9 +86,9 @@ fn clear_files<S: Source>(
         (clear_paths graph (option_map string_bytes table) (path_of named))) }
     ensures stays { (p : List ℕ) → S.file files.new p ≡ S.file files.old p }
 {
-    let graph = graph_files(alloc, graph, files)?;
-    let table = named_table_bytes(alloc, table, files)?;
-    let what = to_clear(alloc, named, files)?;
+    let graph = read_graph_files(alloc, graph, files)?;
+    let table = read_named_table(alloc, table, files)?;
+    let what = read_to_clear(alloc, named, files)?;
     Ok(ClearFiles { graph, table, what })
 }
 
@@ -96,11 +100,11 @@ pub(crate) struct PreparedToClear {
 }
 
 /// Reads the files but for the report, and then looks at what they hold.
-pub(crate) fn prepared_in<S: Source>(
+pub(crate) fn read_and_prepare<S: Source>(
     alloc: Global,
     graph: GraphAsked,
     table: Option<String>,
-    named: Named,
+    named: UnreadToClear,
     range: RunRange,
     files: &mut S,
 ) -> Result<PreparedToClear, CommandFault>
@@ -116,8 +120,8 @@ pub(crate) fn prepared_in<S: Source>(
         (option_map string_bytes table) (path_of named) range) }
     ensures stays { (p : List ℕ) → S.file files.new p ≡ S.file files.old p }
 {
-    let read = clear_files(alloc, graph, table, named, files)?;
-    let prepared = prepare(
+    let read = read_clear_files(alloc, graph, table, named, files)?;
+    let prepared = prepare_backfill(
         alloc,
         &read.graph.graph,
         read.graph.zone_file(),
@@ -131,7 +135,7 @@ pub(crate) fn prepared_in<S: Source>(
 }
 
 /// Reads the report, and goes on from it where this is cleared. Says whether every run is a success.
-fn go_on<RT: Starter + Screen + Threads + Wait + Clock + Sync, S: Source, W: Write>(
+fn resume_unrecorded<RT: Starter + Screen + Threads + Wait + Clock + Sync, S: Source, W: Write>(
     crew: &Crew<'_, RT>,
     prepared: Prepared,
     report: String,
@@ -145,7 +149,7 @@ fn go_on<RT: Starter + Screen + Threads + Wait + Clock + Sync, S: Source, W: Wri
         prepared.answers prepared.dated.plan.dag prepared.dated.runs
         (S.file files.old (string_bytes report)) what text success)
         (W.written out.old) (W.written out.new)) }
-    ensures fault { IfErr result (IsFaultAfterFile (is_alone_in crew.now.progress)
+    ensures fault { IfErr result (IsFaultAfterFile (is_single_threaded_in crew.now.progress)
         (with_clocks (launching_of crew.now.launching) (clocks_in prepared.dated))
         (RT.may_lose crew.now.rt.now)
         prepared.answers prepared.dated.plan.dag prepared.dated.runs (string_bytes report)
@@ -158,12 +162,12 @@ fn go_on<RT: Starter + Screen + Threads + Wait + Clock + Sync, S: Source, W: Wri
         (S.file files.old (string_bytes report)) what text success)
         (W.written out.old) (W.written out.new)) }
 {
-    let report = report_in(crew.alloc, report, files)?;
-    run_again(crew, prepared, report, what, out)
+    let report = read_report_file(crew.alloc, report, files)?;
+    write_resumed_report(crew, prepared, report, what, out)
 }
 
 /// The same, where a journal is named: it is opened when what is cleared is known to be of the report.
-fn go_on_recorded<RT, J: Journals, S: Source, W: Write>(
+fn resume_recorded<RT, J: Journals, S: Source, W: Write>(
     crew: &Crew<'_, RT>,
     prepared: Prepared,
     report: String,
@@ -194,14 +198,14 @@ where
         (S.file files.old (string_bytes report)) what journal text success) (W.written out.old)
         (W.written out.new)) }
 {
-    let report = report_in(crew.alloc, report, files)?;
+    let report = read_report_file(crew.alloc, report, files)?;
     let Prepared { dated, answers } = prepared;
-    let clearing = clear_in(crew.alloc, &dated, report, what)?;
-    clear_recorded(crew, &clearing, answers, journal, journals, out)
+    let clearing = clear_in_report(crew.alloc, &dated, report, what)?;
+    record_clearing(crew, &clearing, answers, journal, journals, out)
 }
 
 /// Goes on from a report, and from a journal where one is named.
-fn gone_on<RT, J: Journals, S: Source, W: Write>(
+fn resume_report<RT, J: Journals, S: Source, W: Write>(
     crew: &Crew<'_, RT>,
     prepared: Prepared,
     report: String,
@@ -221,7 +225,7 @@ where
         prepared.dated.runs
         (S.file files.old (string_bytes report)) what text success) (W.written out.old)
         (W.written out.new)) }
-    ensures fault { IfErr result (IsFaultAfterFileBy (is_alone_in crew.now.progress)
+    ensures fault { IfErr result (IsFaultAfterFileBy (is_single_threaded_in crew.now.progress)
         (with_clocks (launching_of crew.now.launching) (clocks_in prepared.dated))
         (RT.may_lose crew.now.rt.now) (J.journal journals.now) journal
         prepared.answers prepared.dated.plan.dag prepared.dated.runs (string_bytes report)
@@ -236,16 +240,16 @@ where
         (W.written out.new)) }
 {
     match journal {
-        Some(journal) => go_on_recorded(
+        Some(journal) => resume_recorded(
             crew, prepared, report, what, journal, files, journals, out,
         ),
-        None => go_on(crew, prepared, report, what, files, out),
+        None => resume_unrecorded(crew, prepared, report, what, files, out),
     }
 }
 
 /// The moments are looked at first, and then the launcher, where no table is named. Then the files are read but for the report, and
 /// only then what they hold is looked at; then the report is read, and what is to be cleared is looked for.
-pub fn clear_answered<
+pub fn answer_clear<
     RT: Starter + Screen + Threads + Wait + Clock + Sync,
     J: Journals + Launchers,
     S: Source,
@@ -274,22 +278,22 @@ where
         (W.written out.old) (W.written out.new)) }
 {
     let range = range_of(&asked.range)?;
-    let named = named_in(alloc, &asked.cleared)?;
-    look_at(
+    let named = to_clear_asked(alloc, &asked.cleared)?;
+    refuse_unstartable_launcher(
         journals,
         alloc,
         launcher_used(&asked.table, &asked.launcher),
     )?;
-    let ready = prepared_in(alloc, asked.graph, asked.table, named, range, files)?;
+    let ready = read_and_prepare(alloc, asked.graph, asked.table, named, range, files)?;
     let PreparedToClear { prepared, what } = ready;
     let (launcher, logs) = (asked.launcher, asked.logs);
     let by_programs = prepared.answers.is_none();
-    let tells = tells_of(rt, by_programs, asked.quiet, asked.progress, &logs);
-    let crew = Crew::of(rt, alloc, asked.workers, asked.progress).launching(
+    let tells = tells_by_options(rt, by_programs, asked.quiet, asked.progress, &logs);
+    let crew = Crew::new(rt, alloc, asked.workers, asked.progress).with_launching(
         launching_asked(&launcher, &logs),
         tells,
     );
-    let succeeded = gone_on(
+    let succeeded = resume_report(
         &crew,
         prepared,
         asked.report,

@@ -6,20 +6,20 @@ ghost use Rattle.bf_command_fault.specs.declared.status.Status.{Status};
 ghost use Rattle.bf_backfills.specs.Commands.{IsClearPlanAnswer};
 ghost use Rattle.bf_backfills.specs.CommandFaults.{IsClearPlanFault};
 
-use crate::clear::{PreparedToClear, prepared_in};
-use crate::named::named_in;
+use crate::clear::{PreparedToClear, read_and_prepare};
+use crate::named::to_clear_asked;
 use crate::range::range_of;
 use bf_command_fault::{CommandFault, Status};
 use bf_command_line::ClearPlanAsked;
 use bf_commands::write_clear_plan;
 use bf_device::Write;
 use bf_disk::Source;
-use bf_input::report_in;
+use bf_input::read_report_file;
 use std::alloc::Global;
 
 /// The moments are looked at first. Then the files are read but for the report, and only then what they hold is looked at; then the report
 /// is read, and what is to be cleared is looked for. No program is started, so no launcher is looked at.
-pub fn clear_plan_answered<S: Source, W: Write>(
+pub fn answer_clear_plan<S: Source, W: Write>(
     alloc: Global,
     asked: ClearPlanAsked,
     files: &mut S,
@@ -41,10 +41,10 @@ pub fn clear_plan_answered<S: Source, W: Write>(
         cleared,
     } = asked;
     let range = range_of(&range)?;
-    let named = named_in(alloc, &cleared)?;
-    let ready = prepared_in(alloc, graph, None, named, range, files)?;
+    let named = to_clear_asked(alloc, &cleared)?;
+    let ready = read_and_prepare(alloc, graph, None, named, range, files)?;
     let PreparedToClear { prepared, what } = ready;
-    let report = report_in(alloc, report, files)?;
+    let report = read_report_file(alloc, report, files)?;
     write_clear_plan(alloc, &prepared.dated, report, &what, out)?;
     Ok(Status::Success)
 }

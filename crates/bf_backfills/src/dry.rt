@@ -12,7 +12,7 @@ use bf_command_line::DryAsked;
 use bf_commands::{Crew, Screen, run_dry};
 use bf_device::Write;
 use bf_disk::Source;
-use bf_input::files_with_table;
+use bf_input::read_files_with_table;
 use bf_process::Starter;
 use std::alloc::Global;
 use std::sync::Wait;
@@ -20,7 +20,7 @@ use std::thread::Threads;
 use std::time::Clock;
 
 /// The moments are looked at first. Then the files are read, and only then what they hold is looked at.
-pub fn dry_answered<RT: Starter + Screen + Threads + Wait + Clock + Sync, S: Source, W: Write>(
+pub fn answer_dry<RT: Starter + Screen + Threads + Wait + Clock + Sync, S: Source, W: Write>(
     rt: &RT,
     alloc: Global,
     asked: DryAsked,
@@ -37,9 +37,9 @@ pub fn dry_answered<RT: Starter + Screen + Threads + Wait + Clock + Sync, S: Sou
         (W.written out.old) (W.written out.new)) }
 {
     let range = range_of(&asked.range)?;
-    let files = files_with_table(alloc, asked.graph, asked.table, files)?;
+    let files = read_files_with_table(alloc, asked.graph, asked.table, files)?;
     let graph = &files.graph;
-    let crew = Crew::of(rt, alloc, asked.workers, asked.progress);
+    let crew = Crew::new(rt, alloc, asked.workers, asked.progress);
     let succeeded = run_dry(
         &crew,
         &graph.graph,

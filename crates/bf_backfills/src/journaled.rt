@@ -14,7 +14,7 @@ ghost use Rattle.bf_backfills.specs.Journals.{IsFaultOfOpening, IsFaultOfRecorde
 use bf_command_fault::{CommandFault, StopFault};
 use bf_command_line::JournalAsked;
 use bf_commands::{
-    Clearing, Crew, Journal, Recorded, Screen, record_again, record_programs, run_programs,
+    Clearing, Crew, Journal, Recorded, Screen, record_programs, record_resumed_report, run_programs,
 };
 use bf_device::Write;
 use bf_disk::{Journals, OpenFault};
@@ -30,7 +30,7 @@ use std::thread::Threads;
 use std::time::Clock;
 
 /// Why there is no answer where a path's journal isn't open.
-fn unopened(path: String, fault: OpenFault) -> CommandFault
+fn fault_of_opening(path: String, fault: OpenFault) -> CommandFault
     ensures { result ≡ of_open (string_bytes path) fault }
 {
     match fault {
@@ -41,7 +41,7 @@ fn unopened(path: String, fault: OpenFault) -> CommandFault
 }
 
 /// What is told of the fault of a backfill that records its tries in a path's journal.
-fn told_of_journal(fault: CommandFault, path: String) -> CommandFault
+fn fault_at_journal(fault: CommandFault, path: String) -> CommandFault
     ensures { result ≡ journaled_fault (string_bytes path) fault }
 {
     match fault {
@@ -60,7 +60,7 @@ struct NamedJournal<D: Cuttable + Drop> {
 }
 
 /// Opens the journal that is asked for.
-fn named_journal<J: Journals>(
+fn open_named_journal<J: Journals>(
     journals: &J,
     alloc: Global,
     asked: JournalAsked,
@@ -87,12 +87,12 @@ fn named_journal<J: Journals>(
             },
             path,
         }),
-        Err(fault) => Err(unopened(path, fault)),
+        Err(fault) => Err(fault_of_opening(path, fault)),
     }
 }
 
 /// What `run` makes of its runs, where a journal is named.
-fn run_over<RT, J: Journals, W>(
+fn record_dated_run<RT, J: Journals, W>(
     crew: &Crew<'_, RT>,
     dated: &DatedPlan,
     asked: JournalAsked,
@@ -117,16 +117,16 @@ where
         (RT.may_hear crew.now.rt.now)) dated.now.plan.dag dated.now.runs)
         dated.now.plan.dag dated.now.runs text success) (W.written out.old) (W.written out.new)) }
 {
-    let NamedJournal { journal, path } = named_journal(journals, crew.alloc, asked)?;
+    let NamedJournal { journal, path } = open_named_journal(journals, crew.alloc, asked)?;
     let Recorded { report, device: _ } = record_programs(crew, dated, journal, out);
     match report {
         Ok(success) => Ok(success),
-        Err(fault) => Err(told_of_journal(fault, path)),
+        Err(fault) => Err(fault_at_journal(fault, path)),
     }
 }
 
 /// The command `run` where a journal is named. That is opened when the range is known to have runs.
-fn run_recorded<RT, J: Journals, W>(
+fn record_run<RT, J: Journals, W>(
     crew: &Crew<'_, RT>,
     files: &GraphFiles,
     range: RunRange,
@@ -155,11 +155,11 @@ where
         (W.written out.old) (W.written out.new)) }
 {
     let dated = dated_plan_in(crew.alloc, &files.graph, files.zone_file(), range)?;
-    run_over(crew, &dated, asked, journals, out)
+    record_dated_run(crew, &dated, asked, journals, out)
 }
 
 /// What `run` makes of its files, and of a journal where one is named.
-pub(crate) fn run_reported<RT, J: Journals, W>(
+pub(crate) fn write_run_report<RT, J: Journals, W>(
     crew: &Crew<'_, RT>,
     files: &GraphFiles,
     range: RunRange,
@@ -189,13 +189,13 @@ where
         (W.written out.old) (W.written out.new)) }
 {
     match journal {
-        Some(journal) => run_recorded(crew, files, range, journal, journals, out),
+        Some(journal) => record_run(crew, files, range, journal, journals, out),
         None => run_programs(crew, &files.graph, files.zone_file(), range, out),
     }
 }
 
 /// The command `clear` where a journal is named.
-pub(crate) fn clear_recorded<RT, J: Journals, W>(
+pub(crate) fn record_clearing<RT, J: Journals, W>(
     crew: &Crew<'_, RT>,
     clearing: &Clearing<'_>,
     answers: Option<Table>,
@@ -229,10 +229,12 @@ where
         clearing.now.dated.now.plan.dag clearing.now.dated.now.runs text success)
         (W.written out.old) (W.written out.new)) }
 {
-    let NamedJournal { journal, path } = named_journal(journals, crew.alloc, asked)?;
-    let Recorded { report, device: _ } = record_again(crew, clearing, answers, journal, out);
+    let NamedJournal { journal, path } = open_named_journal(journals, crew.alloc, asked)?;
+    let Recorded { report, device: _ } = record_resumed_report(
+        crew, clearing, answers, journal, out,
+    );
     match report {
         Ok(success) => Ok(success),
-        Err(fault) => Err(told_of_journal(fault, path)),
+        Err(fault) => Err(fault_at_journal(fault, path)),
     }
 }

@@ -19,7 +19,7 @@ pub(crate) fn path_named(path: &Option<String>) -> Option<&str>
 }
 
 /// Looks whether the launcher that is named can be started.
-pub(crate) fn look_at<L: Launchers>(
+pub(crate) fn refuse_unstartable_launcher<L: Launchers>(
     launchers: &L,
     alloc: Global,
     launcher: Option<&str>,
@@ -35,7 +35,7 @@ pub(crate) fn look_at<L: Launchers>(
     if launchers.can_start(path) {
         return Ok(());
     }
-    let path = Text::copied(alloc, path)?;
+    let path = Text::copy_of(alloc, path)?;
     Err(CommandFault::CannotLaunch(path))
 }
 
@@ -55,7 +55,7 @@ pub(crate) fn launching_asked<'a>(
 
 /// What is told without being asked for, where programs make the tries: progress on a terminal; which tries fail there, where
 /// progress is asked for, and where logs are kept; and nothing where all is to be quiet.
-pub(crate) fn tells_of<RT: Screen>(
+pub(crate) fn tells_by_options<RT: Screen>(
     rt: &RT,
     by_programs: bool,
     quiet: bool,

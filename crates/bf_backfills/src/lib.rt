@@ -17,10 +17,10 @@ mod range;
 mod run;
 mod single;
 
-pub use check::check_answered;
-pub use clear::clear_answered;
-pub use clear_plan::clear_plan_answered;
-pub use dry::dry_answered;
-pub use list::list_answered;
-pub use run::run_answered;
-pub use single::single_answered;
+pub use check::answer_check;
+pub use clear::answer_clear;
+pub use clear_plan::answer_clear_plan;
+pub use dry::answer_dry;
+pub use list::answer_list;
+pub use run::answer_run;
+pub use single::answer_single;

@@ -11,12 +11,12 @@ use bf_command_fault::{CommandFault, Status};
 use bf_command_line::ListAsked;
 use bf_device::Write;
 use bf_disk::Source;
-use bf_input::graph_files;
-use bf_planning::run_list;
+use bf_input::read_graph_files;
+use bf_planning::write_list;
 use std::alloc::Global;
 
 /// The moments are looked at first. Then the files are read, and only then what they hold is looked at.
-pub fn list_answered<S: Source, W: Write>(
+pub fn answer_list<S: Source, W: Write>(
     alloc: Global,
     asked: ListAsked,
     files: &mut S,
@@ -32,7 +32,7 @@ pub fn list_answered<S: Source, W: Write>(
         (W.written out.old) (W.written out.new)) }
 {
     let range = range_of(&asked.range)?;
-    let files = graph_files(alloc, asked.graph, files)?;
-    run_list(alloc, &files.graph, files.zone_file(), range, out)?;
+    let files = read_graph_files(alloc, asked.graph, files)?;
+    write_list(alloc, &files.graph, files.zone_file(), range, out)?;
     Ok(Status::Success)
 }

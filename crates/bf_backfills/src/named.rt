@@ -11,13 +11,13 @@ use bf_command_line::{ClearedAsked, SeedAsked};
 use bf_commands::ToClear;
 use bf_dependents::Seed;
 use bf_disk::Source;
-use bf_input::{moment_of, seeds_bytes};
+use bf_input::{moment_of, read_seeds_bytes};
 use bf_value::{OutOfMemory, Text};
 use std::alloc::Global;
 
 /// What is to be cleared, where its file isn't read yet.
 #[derive(Drop)]
-pub(crate) enum Named {
+pub(crate) enum UnreadToClear {
     Seeds(Vec<Seed>),
     /// The path of a file.
     File(String),
@@ -31,7 +31,7 @@ fn seed_of(alloc: Global, asked: &SeedAsked) -> Result<Seed, CommandFault>
     ensures bad { IfErr result (IsUnmeant (IsNoMoment (string_bytes asked.now.run))) }
 {
     let run = moment_of(asked.run.as_str())?;
-    let task = Text::copied(alloc, asked.task.as_str())?;
+    let task = Text::copy_of(alloc, asked.task.as_str())?;
     Ok(Seed {
         task,
         run,
@@ -39,7 +39,7 @@ fn seed_of(alloc: Global, asked: &SeedAsked) -> Result<Seed, CommandFault>
     })
 }
 
-fn add(seeds: &mut Vec<Seed>, seed: Seed) -> Result<(), OutOfMemory>
+fn add_seed(seeds: &mut Vec<Seed>, seed: Seed) -> Result<(), OutOfMemory>
     ensures { OnOk result (seeds.new.items ≡ seeds.old.items ++ seed ∷ []) }
 {
     seeds.push(seed)?;
@@ -53,28 +53,34 @@ fn seeds_of(alloc: Global, asked: &[SeedAsked]) -> Result<Vec<Seed>, CommandFaul
     let mut seeds = Vec::new(alloc);
     for one in asked {
         let seed = seed_of(alloc, one)?;
-        add(&mut seeds, seed)?;
+        add_seed(&mut seeds, seed)?;
     }
     Ok(seeds)
 }
 
 /// What the texts of a line mean. No file is read.
-pub(crate) fn named_in(alloc: Global, asked: &ClearedAsked) -> Result<Named, CommandFault>
+pub(crate) fn to_clear_asked(
+    alloc: Global,
+    asked: &ClearedAsked,
+) -> Result<UnreadToClear, CommandFault>
     ensures means { IfOk result (MeansNamed asked.now) }
     ensures bad { IfErr result (IsUnmeant (HasNoMoment asked.now)) }
 {
     match asked {
-        ClearedAsked::Seeds(asked) => Ok(Named::Seeds(seeds_of(alloc, asked.as_slice())?)),
-        ClearedAsked::File(path) => Ok(Named::File(String::from_str(alloc, path.as_str())?)),
-        ClearedAsked::Failed => Ok(Named::Failed),
-        ClearedAsked::Nothing => Ok(Named::Nothing),
+        ClearedAsked::Seeds(asked) => Ok(UnreadToClear::Seeds(seeds_of(alloc, asked.as_slice())?)),
+        ClearedAsked::File(path) => Ok(UnreadToClear::File(String::from_str(
+            alloc,
+            path.as_str(),
+        )?)),
+        ClearedAsked::Failed => Ok(UnreadToClear::Failed),
+        ClearedAsked::Nothing => Ok(UnreadToClear::Nothing),
     }
 }
 
 /// What is to be cleared, by what the file holds where one is named.
-pub(crate) fn to_clear<S: Source>(
+pub(crate) fn read_to_clear<S: Source>(
     alloc: Global,
-    named: Named,
+    named: UnreadToClear,
     files: &mut S,
 ) -> Result<ToClear, CommandFault>
     ensures ok { IfOk result (IsReadFor (S.file files.old) named) }
@@ -83,9 +89,9 @@ pub(crate) fn to_clear<S: Source>(
     ensures stays { (p : List ℕ) → S.file files.new p ≡ S.file files.old p }
 {
     match named {
-        Named::Seeds(seeds) => Ok(ToClear::Seeds(seeds)),
-        Named::File(path) => Ok(ToClear::File(seeds_bytes(alloc, path, files)?)),
-        Named::Failed => Ok(ToClear::Failed),
-        Named::Nothing => Ok(ToClear::Nothing),
+        UnreadToClear::Seeds(seeds) => Ok(ToClear::Seeds(seeds)),
+        UnreadToClear::File(path) => Ok(ToClear::File(read_seeds_bytes(alloc, path, files)?)),
+        UnreadToClear::Failed => Ok(ToClear::Failed),
+        UnreadToClear::Nothing => Ok(ToClear::Nothing),
     }
 }

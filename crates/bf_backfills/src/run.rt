@@ -6,15 +6,17 @@ ghost use Rattle.bf_command_fault.specs.declared.status.Status.{Status};
 ghost use Rattle.bf_backfills.specs.Commands.{IsRunAnswer, machine_of};
 ghost use Rattle.bf_backfills.specs.CommandFaults.{IsRunFault};
 
-use crate::journaled::run_reported;
-use crate::launching::{launching_asked, look_at, path_named, tells_of};
+use crate::journaled::write_run_report;
+use crate::launching::{
+    launching_asked, path_named, refuse_unstartable_launcher, tells_by_options,
+};
 use crate::range::range_of;
 use bf_command_fault::{CommandFault, Status};
 use bf_command_line::RunAsked;
 use bf_commands::{Crew, Screen};
 use bf_device::Write;
 use bf_disk::{Journals, Launchers, Source};
-use bf_input::graph_files;
+use bf_input::read_graph_files;
 use bf_process::Starter;
 use std::alloc::Global;
 use std::sync::Wait;
@@ -22,7 +24,7 @@ use std::thread::Threads;
 use std::time::Clock;
 
 /// The moments are looked at first, and then the launcher. Then the files are read, and only then what they hold is looked at.
-pub fn run_answered<
+pub fn answer_run<
     RT: Starter + Screen + Threads + Wait + Clock + Sync,
     J: Journals + Launchers,
     S: Source,
@@ -51,14 +53,14 @@ where
         (W.written out.old) (W.written out.new)) }
 {
     let range = range_of(&asked.range)?;
-    look_at(journals, alloc, path_named(&asked.launcher))?;
-    let files = graph_files(alloc, asked.graph, files)?;
+    refuse_unstartable_launcher(journals, alloc, path_named(&asked.launcher))?;
+    let files = read_graph_files(alloc, asked.graph, files)?;
     let (launcher, logs) = (asked.launcher, asked.logs);
-    let tells = tells_of(rt, true, asked.quiet, asked.progress, &logs);
-    let crew = Crew::of(rt, alloc, asked.workers, asked.progress).launching(
+    let tells = tells_by_options(rt, true, asked.quiet, asked.progress, &logs);
+    let crew = Crew::new(rt, alloc, asked.workers, asked.progress).with_launching(
         launching_asked(&launcher, &logs),
         tells,
     );
-    let succeeded = run_reported(&crew, &files, range, asked.journal, journals, out)?;
+    let succeeded = write_run_report(&crew, &files, range, asked.journal, journals, out)?;
     Ok(Status::of_runs(succeeded))
 }

@@ -11,7 +11,7 @@ use bf_command_line::SingleAsked;
 use bf_commands::{Screen, run_single};
 use bf_device::Write;
 use bf_disk::Source;
-use bf_input::{files_with_table, moment_of};
+use bf_input::{moment_of, read_files_with_table};
 use bf_process::Starter;
 use std::alloc::Global;
 use std::sync::Wait;
@@ -19,7 +19,7 @@ use std::thread::Threads;
 use std::time::Clock;
 
 /// The moment is looked at first. Then the files are read, and only then what they hold is looked at.
-pub fn single_answered<RT: Starter + Screen + Threads + Wait + Clock + Sync, S: Source, W: Write>(
+pub fn answer_single<RT: Starter + Screen + Threads + Wait + Clock + Sync, S: Source, W: Write>(
     rt: &RT,
     alloc: Global,
     asked: SingleAsked,
@@ -36,7 +36,7 @@ pub fn single_answered<RT: Starter + Screen + Threads + Wait + Clock + Sync, S: 
         (W.written out.old) (W.written out.new)) }
 {
     let at = moment_of(asked.at.as_str())?;
-    let files = files_with_table(alloc, asked.graph, asked.table, files)?;
+    let files = read_files_with_table(alloc, asked.graph, asked.table, files)?;
     let graph = &files.graph;
     let succeeded = run_single(
         rt,

@@ -41,7 +41,7 @@ fn push_letters(
 }
 
 /// The letter of each instance.
-fn push_results(text: &mut String, results: &[TaskResult]) -> Result<(), OutOfMemory>
+fn push_instance_letters(text: &mut String, results: &[TaskResult]) -> Result<(), OutOfMemory>
     ensures { OnOk result (string_bytes text.new
         ≡ string_bytes text.old ++ map (λ ended. ended_letter_of ended.outcome ended.tries)
         results.now) }
@@ -53,27 +53,27 @@ fn push_results(text: &mut String, results: &[TaskResult]) -> Result<(), OutOfMe
 }
 
 /// A word of the instances of a task, where it is expanded and ran.
-fn push_instances(text: &mut String, task: &Settled<'_>) -> Result<(), OutOfMemory>
+fn push_instances_word(text: &mut String, task: &Settled<'_>) -> Result<(), OutOfMemory>
     ensures { OnOk result (string_bytes text.new ≡ string_bytes text.old ++ word_behind task.now) }
 {
-    if let TaskReport::Mapped(_) = task.told() {
+    if let TaskReport::Mapped(_) = task.task_report() {
         text.push_str(" ")?;
-        push_results(text, task.results())?;
+        push_instance_letters(text, task.results())?;
     }
     Ok(())
 }
 
-fn push_words(text: &mut String, settled: &[Settled<'_>]) -> Result<(), OutOfMemory>
+fn push_instances_words(text: &mut String, settled: &[Settled<'_>]) -> Result<(), OutOfMemory>
     ensures { OnOk result (string_bytes text.new
         ≡ string_bytes text.old ++ flat_map word_behind settled.now) }
 {
     for task in settled {
-        push_instances(text, task)?;
+        push_instances_word(text, task)?;
     }
     Ok(())
 }
 
-fn state_word(state: RunState) -> &'static str
+fn run_state_word(state: RunState) -> &'static str
     ensures { result.now ≡ run_state_word_of state }
 {
     match state {
@@ -83,7 +83,7 @@ fn state_word(state: RunState) -> &'static str
 }
 
 /// When a run starts and ends, and its state.
-fn push_run(text: &mut String, run: &RunReport) -> Result<(), OutOfMemory>
+fn push_interval_and_state(text: &mut String, run: &RunReport) -> Result<(), OutOfMemory>
     ensures { OnOk result (string_bytes text.new ≡ string_bytes text.old
         ++ (moment_text run.now.interval.start.nanosecond
         ++ 32 ∷ (moment_text run.now.interval.end.nanosecond
@@ -91,7 +91,7 @@ fn push_run(text: &mut String, run: &RunReport) -> Result<(), OutOfMemory>
 {
     let start = Moment::new(run.interval.start);
     let end = Moment::new(run.interval.end);
-    let state = state_word(run.state);
+    let state = run_state_word(run.state);
     write!(text, "{start} {end} {state} ")?;
     Ok(())
 }
@@ -111,9 +111,9 @@ fn push_row(
         OnOk result (string_bytes text.new
         ≡ string_bytes text.old ++ row plan.now.dag report number run.now) }
 {
-    push_run(text, run)?;
+    push_interval_and_state(text, run)?;
     push_letters(text, plan, number, settled, before)?;
-    push_words(text, settled)?;
+    push_instances_words(text, settled)?;
     text.push_str("\n")?;
     Ok(())
 }

@@ -13,7 +13,7 @@ ghost use Rattle.bf_report.specs.declared.report.Report.{Report};
 ghost use Rattle.bf_report.specs.declared.report.RunReport.{RunReport};
 ghost use Rattle.bf_report.specs.declared.report.TaskReport.{TaskReport};
 
-use bf_moment::long_form;
+use bf_moment::long_form_is_what_is_written;
 use bf_reason::own_reports_have_no_digit;
 
 /// Each task of a run has a letter.
@@ -39,6 +39,6 @@ pub fn cells_stand_as_they_are()
         length dag.tasks < 2 ^ 64 → length report.runs < 2 ^ 64 → bytes < 2 ^ 64 →
         safe (cells_text dag report bytes) ≡ cells_text dag report bytes }
 {
-    long_form();
+    long_form_is_what_is_written();
     bf_page::cells_stand_as_they_are();
 }

@@ -8,7 +8,7 @@ use Rattle.std.specs.List.{cons_option, filter_map, list_any, position, slice_in
 use Rattle.std.specs.Str.{bytes_eq}
 use Rattle.bf_read.specs.declared.draft.TaskDraft.{TaskDraft}
 use Rattle.bf_read.specs.declared.draft.WordDraft.{WordDraft}
-use Rattle.bf_read.specs.Drafts.{distinct_of, pulled_by, pulled_in}
+use Rattle.bf_read.specs.Drafts.{distinct_texts_of, pulled_by, pulled_in}
 use Rattle.bf_check.specs.Checking.{number_of, number_or_0}
 use Rattle.bf_check.specs.Looks.{numbers_in, source_found}
 use Rattle.bf_check.specs.Refusals.{is_no_upstream}
@@ -124,15 +124,15 @@ filter_keeps {X} p (y ∷ xs) x passes (suc k, h, is) = go (p y) (filter_keeps p
     go true (j, low, at) = (suc j, omega (arith, low), at)
     go false one = one
 
-distinct_keeps : (ss : List (List ℕ)) (s : List ℕ) → Contains ss s → Contains (distinct_of ss) s
-unfolding distinct_of
+distinct_keeps : (ss : List (List ℕ)) (s : List ℕ) → Contains ss s → Contains (distinct_texts_of ss) s
+unfolding distinct_texts_of
 distinct_keeps [] s (k, h, is) = absurd (omega (arith, h))
 distinct_keeps (t ∷ ss) s (zero, h, is) = (0, omega arith, is)
 distinct_keeps (t ∷ ss) s (suc k, h, is) = go (bytes_eq t s) refl (distinct_keeps ss s (k, omega (arith, h), is))
   where
-    go : (b : Bool) → bytes_eq t s ≡ b → Contains (distinct_of ss) s → Contains (t ∷ filter (λ u. not (bytes_eq t u)) (distinct_of ss)) s
+    go : (b : Bool) → bytes_eq t s ≡ b → Contains (distinct_texts_of ss) s → Contains (t ∷ filter (λ u. not (bytes_eq t u)) (distinct_texts_of ss)) s
     go true e one = (0, omega arith, (bytes_decides t s).0 e)
-    go false e one = (let rest = filter_keeps (λ u. not (bytes_eq t u)) (distinct_of ss) s (ap not e) one in (suc rest.0, omega (arith, rest.1), rest.2))
+    go false e one = (let rest = filter_keeps (λ u. not (bytes_eq t u)) (distinct_texts_of ss) s (ap not e) one in (suc rest.0, omega (arith, rest.1), rest.2))
 
 given_kept : {X Y : Type 0} (h : X → Option Y) (xs : List X) (x : X) (y : Y) → h x ≡ Some y → Contains xs x → Contains (filter_map h xs) y
 given_kept h [] x y gives (k, low, is) = absurd (omega (arith, low))

@@ -14,7 +14,7 @@ use Rattle.std.proofs.lemmas.Map.Lookups.{exact_bytes}
 use Rattle.std.proofs.Math.Seq.{get_or-append_seam}
 use Rattle.bf_read.specs.declared.draft.PoolDraft.{PoolDraft}
 use Rattle.bf_read.specs.Drafts.{StandByName}
-use Rattle.bf_check.specs.Checking.{default_pool, names_default_in, pool_number, pools_in}
+use Rattle.bf_check.specs.Checking.{default_pool, names_default_pool_in, pool_number, pools_in}
 use Rattle.bf_check.specs.declared.pools.TaskPool.{TaskPool}
 use Rattle.bf_check.specs.Looks.{pool_named_of, with_size}
 use Rattle.bf_plan.proofs.ListLemmas.{some_same}
@@ -85,7 +85,7 @@ module _ (q : List ℕ) where
 abbrev with_default : Bool → List PoolDraft → List PoolDraft
 with_default named pools = cond named pools (pools ++ default_pool ∷ [])
 
-none_default : (pools : List PoolDraft) → position (is_named (codes "default_pool")) pools ≡ None → names_default_in pools ≡ false
+none_default : (pools : List PoolDraft) → position (is_named (codes "default_pool")) pools ≡ None → names_default_pool_in pools ≡ false
 none_default pools e = list_any_none (is_named (codes "default_pool")) pools (λ k d h. none_passing (is_named (codes "default_pool")) pools d e k h)
 
 -- the default pool that the file doesn't name stands behind the others
@@ -101,7 +101,7 @@ number_of_default q pools e is =
 
 -- a pool of another name isn't there
 pub number_of_none : (q : List ℕ) (pools : List PoolDraft) → position (is_named q) pools ≡ None → (q ≡ codes "default_pool" → ⊥) → pool_number (pools_in pools) q ≡ None
-number_of_none q pools e differs = go (names_default_in pools)
+number_of_none q pools e differs = go (names_default_pool_in pools)
   where
     d : PoolDraft
     d = default_pool

@@ -6,9 +6,9 @@ ghost use Rattle.bf_check.specs.Looks.{AllMayPull, AreFoundIn};
 ghost use Rattle.bf_check.specs.Refusals.{HasNoFault, HasNoneBelow, IsAccepted, IsFaultOf};
 ghost use Rattle.bf_check.specs.Schedules.{Fires, IsScheduled, IsZoneFor};
 
-use crate::edges::numbered;
+use crate::edges::task_ids_of;
 use crate::fault::CheckFault;
-use crate::looks::Looks;
+use crate::looks::DraftUnderCheck;
 use crate::pools::limits_of;
 use crate::pulls::Pulls;
 use crate::tasks::tasks_of;
@@ -46,21 +46,26 @@ struct Parts {
 }
 
 // A look that refuses drops all that is held. So each of these holds little of it.
-impl Looks<'_> {
+impl DraftUnderCheck<'_> {
     /// The looks 8 and 9: the limits.
-    fn limits(&self, alloc: Global) -> Result<Limits, CheckFault>
+    fn check_limits(&self, alloc: Global) -> Result<Limits, CheckFault>
         requires { HasNoneBelow self.now.draft.now 8 }
         ensures limits { IfOk result (λ limits. limits ≡ limits_in self.now.draft.now) }
         ensures ok { OnOk result (HasNoneBelow self.now.draft.now 10) }
         ensures err { IfErr result (IsFaultOf self.now.draft.now
             (option_map (λ s. s.now) self.now.zone_file)) }
     {
-        let demands = self.demands(alloc)?;
+        let demands = self.check_pools_and_demands(alloc)?;
         Ok(limits_of(alloc, self.draft, demands)?)
     }
 
     /// The looks 14 to 17: what is found of each task.
-    fn found(&self, alloc: Global, graph: &Graph, rules: Vec<Rule>) -> Result<Found, CheckFault>
+    fn check_tasks(
+        &self,
+        alloc: Global,
+        graph: &Graph,
+        rules: Vec<Rule>,
+    ) -> Result<Found, CheckFault>
         requires graph { graph.now ≡ shape_in self.now.draft.now.tasks }
         requires rules { rules.items ≡ map rule_of self.now.draft.now.tasks }
         requires below { HasNoneBelow self.now.draft.now 14 }
@@ -72,8 +77,8 @@ impl Looks<'_> {
         ensures err { IfErr result (IsFaultOf self.now.draft.now
             (option_map (λ s. s.now) self.now.zone_file)) }
     {
-        let pulls = self.pulls(alloc, graph, rules.as_slice())?;
-        let sources = self.sources(alloc, graph, rules.as_slice())?;
+        let pulls = self.check_pulls(alloc, graph, rules.as_slice())?;
+        let sources = self.check_expansions(alloc, graph, rules.as_slice())?;
         Ok(Found {
             rules,
             pulls,
@@ -82,7 +87,7 @@ impl Looks<'_> {
     }
 
     /// The looks 10 to 17.
-    fn rest(&self, alloc: Global, graph: &Graph) -> Result<Rest, CheckFault>
+    fn check_behind_limits(&self, alloc: Global, graph: &Graph) -> Result<Rest, CheckFault>
         requires graph { graph.now ≡ shape_in self.now.draft.now.tasks }
         requires below { HasNoneBelow self.now.draft.now 10 }
         ensures found { IfOk result (λ rest. AreFoundIn self.now.draft.now.tasks graph.now
@@ -95,9 +100,9 @@ impl Looks<'_> {
         ensures err { IfErr result (IsFaultOf self.now.draft.now
             (option_map (λ s. s.now) self.now.zone_file)) }
     {
-        let rules = self.rules(alloc)?;
-        let (schedule, zone) = self.schedule_in_zone(alloc)?;
-        let found = self.found(alloc, graph, rules)?;
+        let rules = self.check_rules(alloc)?;
+        let (schedule, zone) = self.check_schedule_and_zone(alloc)?;
+        let found = self.check_tasks(alloc, graph, rules)?;
         Ok(Rest {
             schedule,
             zone,
@@ -106,7 +111,7 @@ impl Looks<'_> {
     }
 
     /// All looks in the order of their numbers.
-    fn parts(&self, alloc: Global) -> Result<Parts, CheckFault>
+    fn check_all(&self, alloc: Global) -> Result<Parts, CheckFault>
         ensures found { IfOk result (λ parts. AreFoundIn self.now.draft.now.tasks parts.graph
             parts.rest.found) }
         ensures limits { IfOk result (λ parts. parts.limits ≡ limits_in self.now.draft.now) }
@@ -120,9 +125,9 @@ impl Looks<'_> {
         ensures err { IfErr result (IsFaultOf self.now.draft.now
             (option_map (λ s. s.now) self.now.zone_file)) }
     {
-        let graph = self.graph(alloc)?;
-        let limits = self.limits(alloc)?;
-        let rest = self.rest(alloc, &graph)?;
+        let graph = self.check_graph(alloc)?;
+        let limits = self.check_limits(alloc)?;
+        let rest = self.check_behind_limits(alloc, &graph)?;
         Ok(Parts {
             graph,
             limits,
@@ -132,7 +137,12 @@ impl Looks<'_> {
 }
 
 /// The tasks of a draft, of what was found of each.
-fn dag_found(alloc: Global, draft: Draft, graph: &Graph, found: Found) -> Result<Dag, OutOfMemory>
+fn dag_of_found(
+    alloc: Global,
+    draft: Draft,
+    graph: &Graph,
+    found: Found,
+) -> Result<Dag, OutOfMemory>
     requires { AreFoundIn draft.tasks graph.now found }
     ensures { IfOk result (λ dag. dag ≡ dag_of draft) }
 {
@@ -152,7 +162,7 @@ fn dag_found(alloc: Global, draft: Draft, graph: &Graph, found: Found) -> Result
 }
 
 /// The plan of a draft that was looked through, and the zone of its schedule.
-fn planned(alloc: Global, draft: Draft, parts: Parts) -> Result<(Plan, Zone), OutOfMemory>
+fn plan_of_parts(alloc: Global, draft: Draft, parts: Parts) -> Result<(Plan, Zone), OutOfMemory>
     requires found { AreFoundIn draft.tasks parts.graph parts.rest.found }
     requires limits { parts.limits ≡ limits_in draft }
     requires ranking { Ranking (shape_in draft.tasks).upstreams }
@@ -164,13 +174,13 @@ fn planned(alloc: Global, draft: Draft, parts: Parts) -> Result<(Plan, Zone), Ou
     ensures zone { IfOk result (λ both. both.1 ≡ parts.rest.zone) }
 {
     let rest = parts.rest;
-    let dag = dag_found(alloc, draft, &parts.graph, rest.found)?;
+    let dag = dag_of_found(alloc, draft, &parts.graph, rest.found)?;
     let plan = Plan::new(dag, parts.limits, rest.schedule, parts.graph);
     Ok((plan, rest.zone))
 }
 
 /// What a draft is found to have, by its bytes for the zone `file`.
-fn parts_of(alloc: Global, draft: &Draft, zone_file: Option<&[u8]>) -> Result<Parts, CheckFault>
+fn check_draft(alloc: Global, draft: &Draft, zone_file: Option<&[u8]>) -> Result<Parts, CheckFault>
     ensures found { IfOk result (λ parts. AreFoundIn draft.now.tasks parts.graph parts.rest.found) }
     ensures limits { IfOk result (λ parts. parts.limits ≡ limits_in draft.now) }
     ensures schedule { IfOk result (λ parts. Fires draft.now.schedule parts.rest.schedule) }
@@ -181,13 +191,13 @@ fn parts_of(alloc: Global, draft: &Draft, zone_file: Option<&[u8]>) -> Result<Pa
     ensures settled { OnOk result (AllMayPull draft.now) }
     ensures err { IfErr result (IsFaultOf draft.now (option_map (λ s. s.now) zone_file.entry)) }
 {
-    let ids = numbered(alloc, draft)?;
-    let looks = Looks {
+    let ids = task_ids_of(alloc, draft)?;
+    let looks = DraftUnderCheck {
         ids: &ids,
         draft,
         zone_file,
     };
-    looks.parts(alloc)
+    looks.check_all(alloc)
 }
 
 /// The plan of a draft and the zone of its schedule, or of its faults the one of the least number; of the tasks that have it
@@ -205,6 +215,6 @@ pub fn check(
     ensures accepted { OnOk result (IsAccepted draft (option_map (λ s. s.now) zone_file.entry)) }
     ensures fault { IfErr result (IsFaultOf draft (option_map (λ s. s.now) zone_file.entry)) }
 {
-    let parts = parts_of(alloc, &draft, zone_file)?;
-    Ok(planned(alloc, draft, parts)?)
+    let parts = check_draft(alloc, &draft, zone_file)?;
+    Ok(plan_of_parts(alloc, draft, parts)?)
 }

@@ -9,14 +9,14 @@ ghost use Rattle.bf_check.specs.Looks.{numbers_in};
 ghost use Rattle.bf_check.specs.Refusals.{HasNoneBelow, IsFaultOf};
 
 use crate::fault::{CheckFault, TaskFault};
-use crate::looks::Looks;
+use crate::looks::DraftUnderCheck;
 use bf_graph::{Graph, GraphFault, Ids};
 use bf_read::{Draft, TaskDraft};
 use bf_value::{OutOfMemory, Sequence, Text};
 use std::alloc::Global;
 
 /// The ids of the tasks as texts of their own.
-fn texts_of(alloc: Global, tasks: &[TaskDraft]) -> Result<Vec<String>, OutOfMemory>
+fn id_strings_of(alloc: Global, tasks: &[TaskDraft]) -> Result<Vec<String>, OutOfMemory>
     ensures { IfOk result (λ v. texts v.items ≡ ids_of tasks.now) }
 {
     let mut ids = Vec::new(alloc);
@@ -27,10 +27,10 @@ fn texts_of(alloc: Global, tasks: &[TaskDraft]) -> Result<Vec<String>, OutOfMemo
 }
 
 /// The ids of the tasks.
-pub(crate) fn numbered(alloc: Global, draft: &Draft) -> Result<Ids, OutOfMemory>
+pub(crate) fn task_ids_of(alloc: Global, draft: &Draft) -> Result<Ids, OutOfMemory>
     ensures { IfOk result (λ ids. ids ≡ ids_of draft.now.tasks) }
 {
-    Ids::numbered(alloc, texts_of(alloc, draft.tasks.as_slice())?)
+    Ids::from_distinct(alloc, id_strings_of(alloc, draft.tasks.as_slice())?)
 }
 
 /// The place of an id among these.
@@ -61,7 +61,7 @@ pub(crate) fn numbers_of(
 }
 
 /// The ids of some tasks.
-fn names_of(alloc: Global, tasks: &[TaskDraft], numbers: &[u32]) -> Result<Vec<Text>, OutOfMemory>
+fn ids_at(alloc: Global, tasks: &[TaskDraft], numbers: &[u32]) -> Result<Vec<Text>, OutOfMemory>
     requires { (t : ℕ) → Contains numbers.now t → t < length tasks.now }
     ensures { IfOk result (λ v. v.items
         ≡ map (λ t. slice_index_or (ids_of tasks.now) t []) numbers.now) }
@@ -89,9 +89,9 @@ fn numbers_of_upstreams(
     Ok(found)
 }
 
-impl Looks<'_> {
+impl DraftUnderCheck<'_> {
     /// The look 6: the numbers of each task's upstreams.
-    fn upstreams(&self, alloc: Global) -> Result<Vec<Vec<u32>>, CheckFault>
+    fn check_upstreams(&self, alloc: Global) -> Result<Vec<Vec<u32>>, CheckFault>
         ensures upstreams { IfOk result (λ upstreams. lists upstreams.items
             ≡ (shape_in self.now.draft.now.tasks).upstreams) }
         ensures ok { OnOk result (HasNoneBelow self.now.draft.now 7) }
@@ -99,11 +99,11 @@ impl Looks<'_> {
             (option_map (λ s. s.now) self.now.zone_file)) }
     {
         let found = numbers_of_upstreams(alloc, self.ids, self.draft.tasks.as_slice())?;
-        self.found_of_each(alloc, TaskFault::UnknownUpstream, found)
+        self.unwrap_or_refuse(alloc, TaskFault::UnknownUpstream, found)
     }
 
     /// The look 7: the graph of the tasks, or the cycle that is named.
-    fn graph_of(&self, alloc: Global, upstreams: Vec<Vec<u32>>) -> Result<Graph, CheckFault>
+    fn check_cycles(&self, alloc: Global, upstreams: Vec<Vec<u32>>) -> Result<Graph, CheckFault>
         requires upstreams { lists upstreams.items ≡ (shape_in self.now.draft.now.tasks).upstreams }
         requires below { HasNoneBelow self.now.draft.now 7 }
         ensures graph { IfOk result (λ graph. graph ≡ shape_in self.now.draft.now.tasks) }
@@ -113,13 +113,13 @@ impl Looks<'_> {
             (option_map (λ s. s.now) self.now.zone_file)) }
     {
         let tasks = self.draft.tasks.as_slice();
-        match Graph::build(alloc, texts_of(alloc, tasks)?, upstreams) {
+        match Graph::build(alloc, id_strings_of(alloc, tasks)?, upstreams) {
             Ok(graph) => {
-                graph.ranks();
+                graph.tasks_have_ranks();
                 Ok(graph)
             }
             Err(GraphFault::Cycle(cycle)) => {
-                let names = names_of(alloc, tasks, cycle.as_slice())?;
+                let names = ids_at(alloc, tasks, cycle.as_slice())?;
                 Err(CheckFault::Cycle(Sequence::from_vec(names)))
             }
             Err(GraphFault::OutOfMemory) => Err(CheckFault::OutOfMemory),
@@ -127,14 +127,14 @@ impl Looks<'_> {
     }
 
     /// The looks 6 and 7: the graph of the tasks.
-    pub(crate) fn graph(&self, alloc: Global) -> Result<Graph, CheckFault>
+    pub(crate) fn check_graph(&self, alloc: Global) -> Result<Graph, CheckFault>
         ensures graph { IfOk result (λ graph. graph ≡ shape_in self.now.draft.now.tasks) }
         ensures ranking { OnOk result (Ranking (shape_in self.now.draft.now.tasks).upstreams) }
         ensures ok { OnOk result (HasNoneBelow self.now.draft.now 8) }
         ensures err { IfErr result (IsFaultOf self.now.draft.now
             (option_map (λ s. s.now) self.now.zone_file)) }
     {
-        let upstreams = self.upstreams(alloc)?;
-        self.graph_of(alloc, upstreams)
+        let upstreams = self.check_upstreams(alloc)?;
+        self.check_cycles(alloc, upstreams)
     }
 }

@@ -9,7 +9,7 @@ ghost use Rattle.bf_check.specs.Schedules.{IsScheduled};
 
 use crate::edges::place_of;
 use crate::fault::{CheckFault, TaskFault};
-use crate::looks::Looks;
+use crate::looks::DraftUnderCheck;
 use bf_graph::Graph;
 use bf_plan::TaskKind;
 use bf_read::TaskDraft;
@@ -35,10 +35,8 @@ fn first_expanded_early(tasks: &[TaskDraft], rules: &[Rule]) -> Option<usize>
     ensures { result ≡ position (λ both. is_some both.0.expand
         && not (is_waiting both.1)) (zip tasks.now rules.now) }
 {
-    tasks
-        .iter()
-        .zip(rules)
-        .position(|(task, rule)| task.expand.is_some() && !rule.waits())
+    tasks.iter().zip(rules).position(|(task, rule)| task.expand.is_some()
+        && !rule.waits_until_settled())
 }
 
 /// The place of the first branch that is expanded.
@@ -48,7 +46,7 @@ fn first_expanded_branch(tasks: &[TaskDraft]) -> Option<usize>
     tasks.iter().position(|task| task.expand.is_some() && task.kind == TaskKind::Branch)
 }
 
-impl Looks<'_> {
+impl DraftUnderCheck<'_> {
     /// The source of each task, or nothing where that isn't upstream.
     fn sources_of_each(
         &self,
@@ -67,7 +65,7 @@ impl Looks<'_> {
     }
 
     /// The look 15: the source of each task.
-    fn upstream_sources(&self, alloc: Global, graph: &Graph) -> Result<Vec<Option<u32>>, CheckFault>
+    fn check_sources(&self, alloc: Global, graph: &Graph) -> Result<Vec<Option<u32>>, CheckFault>
         requires graph { graph.now ≡ shape_in self.now.draft.now.tasks }
         requires below { HasNoneBelow self.now.draft.now 15 }
         requires scheduled { IsScheduled self.now.draft.now
@@ -79,7 +77,7 @@ impl Looks<'_> {
             (option_map (λ s. s.now) self.now.zone_file)) }
     {
         let found = self.sources_of_each(alloc, graph)?;
-        self.found_of_each(alloc, TaskFault::ExpandSource, found)
+        self.unwrap_or_refuse(alloc, TaskFault::ExpandSource, found)
     }
 
     /// The look 16 at rules that don't wait.
@@ -110,7 +108,7 @@ impl Looks<'_> {
     }
 
     /// The looks 15 to 17: the source of each task.
-    pub(crate) fn sources(
+    pub(crate) fn check_expansions(
         &self,
         alloc: Global,
         graph: &Graph,
@@ -127,7 +125,7 @@ impl Looks<'_> {
         ensures err { IfErr result (IsFaultOf self.now.draft.now
             (option_map (λ s. s.now) self.now.zone_file)) }
     {
-        let sources = self.upstream_sources(alloc, graph)?;
+        let sources = self.check_sources(alloc, graph)?;
         self.refuse_early_expansions(alloc, rules)?;
         self.refuse_expanded_branches(alloc)?;
         Ok(sources)

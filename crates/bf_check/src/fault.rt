@@ -28,7 +28,7 @@ pub enum TaskFault {
 
 impl TaskFault {
     /// The number of the refusal.
-    pub fn number(self) -> u32
+    pub fn refusal_number(self) -> u32
         ensures { result ≡ refusal_number_of self }
     {
         match self {
@@ -85,11 +85,11 @@ pub enum CheckFault {
 
 impl CheckFault {
     /// The number of the refusal, which want of memory doesn't have.
-    pub fn number(&self) -> Option<u32>
+    pub fn refusal_number(&self) -> Option<u32>
         ensures { result ≡ check_number self.now }
     {
         match self {
-            CheckFault::Task(fault, _) => Some(fault.number()),
+            CheckFault::Task(fault, _) => Some(fault.refusal_number()),
             CheckFault::Cycle(_) => Some(7),
             CheckFault::BadCron => Some(11),
             CheckFault::NeverFires => Some(12),

@@ -23,4 +23,4 @@ pub use bf_plan::{ContextVariable, Dag, Demand, Limits, Plan, Task, TaskKind, We
 pub use bf_zone::Zone;
 pub use checking::check;
 pub use fault::{CheckFault, TaskFault};
-pub use laws::one_answer;
+pub use laws::answer_is_unique;

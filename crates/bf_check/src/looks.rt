@@ -13,7 +13,7 @@ use std::alloc::Global;
 
 /// A draft that is looked through for faults, with the ids of its tasks and the bytes for the zone `file`.
 #[derive(Clone, Copy)]
-pub(crate) struct Looks<'a> {
+pub(crate) struct DraftUnderCheck<'a> {
     pub(crate) ids: &'a Ids,
     pub(crate) draft: &'a Draft,
     pub(crate) zone_file: Option<&'a [u8]>,
@@ -27,14 +27,14 @@ fn first_missing<T>(found: &[Option<T>]) -> Option<usize>
 }
 
 /// All that was found, where nothing is missing.
-fn all_of<T: Drop>(alloc: Global, found: Vec<Option<T>>) -> Result<Vec<T>, OutOfMemory>
+fn unwrap_all<T: Drop>(alloc: Global, found: Vec<Option<T>>) -> Result<Vec<T>, OutOfMemory>
     requires { position is_none found.items ≡ None }
     ensures { IfOk result (λ all. map Some all.items ≡ found.items) }
 {
     Ok(found.into_iter().filter_map(|one| one).collect(alloc)?)
 }
 
-impl Looks<'_> {
+impl DraftUnderCheck<'_> {
     /// Refuses a draft of which some task has this fault: the first of them stands at this place.
     pub(crate) fn refuse_at(
         &self,
@@ -61,7 +61,7 @@ impl Looks<'_> {
     }
 
     /// What was found of each task. A task of which nothing was found has this fault.
-    pub(crate) fn found_of_each<T: Drop>(
+    pub(crate) fn unwrap_or_refuse<T: Drop>(
         &self,
         alloc: Global,
         fault: TaskFault,
@@ -77,6 +77,6 @@ impl Looks<'_> {
             (option_map (λ s. s.now) self.now.zone_file)) }
     {
         self.refuse_at(alloc, fault, first_missing(found.as_slice()))?;
-        Ok(all_of(alloc, found)?)
+        Ok(unwrap_all(alloc, found)?)
     }
 }

@@ -12,8 +12,8 @@ ghost use Rattle.bf_check.specs.Schedules.{IsScheduled};
 
 use crate::edges::numbers_of;
 use crate::fault::{CheckFault, TaskFault};
-use crate::looks::Looks;
-use bf_graph::{Graph, reaching};
+use crate::looks::DraftUnderCheck;
+use bf_graph::{Graph, marks_of_reaching_tasks};
 use bf_read::{TaskDraft, pulls_of};
 use bf_rule::Rule;
 use bf_value::{OutOfMemory, Sequence, Text};
@@ -51,7 +51,7 @@ fn are_settled(
     if are_among(settling[task as usize].as_slice(), pulls) {
         return Ok(true);
     }
-    let settled = reaching(alloc, settling, task)?;
+    let settled = marks_of_reaching_tasks(alloc, settling, task)?;
     for pull in pulls {
         if !settled[*pull as usize] {
             return Ok(false);
@@ -64,14 +64,14 @@ fn are_settled(
 fn settling_upstreams(alloc: Global, rule: Rule, upstreams: &[u32]) -> Result<Vec<u32>, OutOfMemory>
     ensures { IfOk result (λ v. v.items ≡ if is_waiting rule then upstreams.now else []) }
 {
-    if rule.waits() {
+    if rule.waits_until_settled() {
         Ok(upstreams.to_vec(alloc)?)
     } else {
         Ok(Vec::new(alloc))
     }
 }
 
-impl Looks<'_> {
+impl DraftUnderCheck<'_> {
     /// The edges along which upstreams are settled when a task is decided.
     fn settling_edges(
         &self,
@@ -138,7 +138,7 @@ impl Looks<'_> {
     }
 
     /// The look 14: what each task pulls from.
-    pub(crate) fn pulls(
+    pub(crate) fn check_pulls(
         &self,
         alloc: Global,
         graph: &Graph,
@@ -158,6 +158,6 @@ impl Looks<'_> {
     {
         let settling = self.settling_edges(alloc, graph, rules)?;
         let found = self.pulls_of_each(alloc, settling.as_slice())?;
-        self.found_of_each(alloc, TaskFault::PullNotSettled, found)
+        self.unwrap_or_refuse(alloc, TaskFault::PullNotSettled, found)
     }
 }

@@ -5,7 +5,7 @@ ghost use Rattle.bf_check.specs.Checking.{rule_of};
 ghost use Rattle.bf_check.specs.Refusals.{HasNoneBelow, IsFaultOf};
 
 use crate::fault::{CheckFault, TaskFault};
-use crate::looks::Looks;
+use crate::looks::DraftUnderCheck;
 use bf_read::TaskDraft;
 use bf_rule::Rule;
 use bf_value::OutOfMemory;
@@ -22,9 +22,9 @@ fn rules_of(alloc: Global, tasks: &[TaskDraft]) -> Result<Vec<Option<Rule>>, Out
     Ok(found)
 }
 
-impl Looks<'_> {
+impl DraftUnderCheck<'_> {
     /// The look 10: the rule of each task.
-    pub(crate) fn rules(&self, alloc: Global) -> Result<Vec<Rule>, CheckFault>
+    pub(crate) fn check_rules(&self, alloc: Global) -> Result<Vec<Rule>, CheckFault>
         requires { HasNoneBelow self.now.draft.now 10 }
         ensures rules { IfOk result (λ rules. rules.items ≡ map rule_of self.now.draft.now.tasks) }
         ensures ok { OnOk result (HasNoneBelow self.now.draft.now 11) }
@@ -32,6 +32,6 @@ impl Looks<'_> {
             (option_map (λ s. s.now) self.now.zone_file)) }
     {
         let found = rules_of(alloc, self.draft.tasks.as_slice())?;
-        self.found_of_each(alloc, TaskFault::BadRule, found)
+        self.unwrap_or_refuse(alloc, TaskFault::BadRule, found)
     }
 }

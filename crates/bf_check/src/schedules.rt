@@ -5,13 +5,13 @@ ghost use Rattle.bf_check.specs.Schedules.{Fires, IsScheduled, IsScheduleOf, IsZ
 ghost use Rattle.bf_cron.specs.declared.spec.CronSpec.{CronSpec};
 
 use crate::fault::CheckFault;
-use crate::looks::Looks;
+use crate::looks::DraftUnderCheck;
 use bf_cron::{CronFault, CronSpec};
 use bf_zone::{Zone, ZoneFault};
 use std::alloc::Global;
 
-impl Looks<'_> {
-    fn schedule_said(&self, alloc: Global) -> Result<CronSpec, CheckFault>
+impl DraftUnderCheck<'_> {
+    fn read_schedule(&self, alloc: Global) -> Result<CronSpec, CheckFault>
         requires { HasNoneBelow self.now.draft.now 11 }
         ensures ok { IfOk result (IsScheduleOf self.now.draft.now.schedule) }
         ensures err { IfErr result (IsFaultOf self.now.draft.now
@@ -25,14 +25,14 @@ impl Looks<'_> {
     }
 
     /// The looks 11 and 12: the schedule, which some civil minute matches.
-    fn schedule(&self, alloc: Global) -> Result<CronSpec, CheckFault>
+    fn check_schedule(&self, alloc: Global) -> Result<CronSpec, CheckFault>
         requires { HasNoneBelow self.now.draft.now 11 }
         ensures ok { IfOk result (Fires self.now.draft.now.schedule) }
         ensures below { OnOk result (HasNoneBelow self.now.draft.now 13) }
         ensures err { IfErr result (IsFaultOf self.now.draft.now
             (option_map (λ s. s.now) self.now.zone_file)) }
     {
-        let schedule = self.schedule_said(alloc)?;
+        let schedule = self.read_schedule(alloc)?;
         if schedule.never_fires() {
             return Err(CheckFault::NeverFires);
         }
@@ -40,7 +40,7 @@ impl Looks<'_> {
     }
 
     /// The look 13: the zone of a schedule that is right.
-    fn zone(&self, alloc: Global) -> Result<Zone, CheckFault>
+    fn check_zone(&self, alloc: Global) -> Result<Zone, CheckFault>
         requires below { HasNoneBelow self.now.draft.now 13 }
         requires fires { (spec : CronSpec) × Fires self.now.draft.now.schedule spec }
         ensures ok { IfOk result (IsZoneFor self.now.draft.now.zone
@@ -59,7 +59,10 @@ impl Looks<'_> {
     }
 
     /// The looks 11 to 13: the schedule, and its zone.
-    pub(crate) fn schedule_in_zone(&self, alloc: Global) -> Result<(CronSpec, Zone), CheckFault>
+    pub(crate) fn check_schedule_and_zone(
+        &self,
+        alloc: Global,
+    ) -> Result<(CronSpec, Zone), CheckFault>
         requires { HasNoneBelow self.now.draft.now 11 }
         ensures schedule { IfOk result (λ both. Fires self.now.draft.now.schedule both.0) }
         ensures zone { IfOk result (λ both. IsZoneFor self.now.draft.now.zone
@@ -70,8 +73,8 @@ impl Looks<'_> {
         ensures err { IfErr result (IsFaultOf self.now.draft.now
             (option_map (λ s. s.now) self.now.zone_file)) }
     {
-        let schedule = self.schedule(alloc)?;
-        let zone = self.zone(alloc)?;
+        let schedule = self.check_schedule(alloc)?;
+        let zone = self.check_zone(alloc)?;
         Ok((schedule, zone))
     }
 }

@@ -18,7 +18,7 @@ use bf_value::{OutOfMemory, Sequence, Text};
 use std::alloc::Global;
 
 /// The place of an id among those that are pulled.
-fn pull_of(pulled: &[Text], id: &str) -> u32
+fn place_of_pull(pulled: &[Text], id: &str) -> u32
     requires pulled { Contains pulled.now id.now }
     requires few { length pulled.now ≤ most_pulls }
     ensures { Some result ≡ position (bytes_eq id.now) pulled.now }
@@ -34,7 +34,7 @@ fn word_of(pulled: &[Text], word: WordDraft) -> Word
     match word {
         WordDraft::Text(text) => Word::Text(text),
         WordDraft::Context(variable) => Word::Context(variable),
-        WordDraft::Pull(id) => Word::Pull(pull_of(pulled, id.as_str())),
+        WordDraft::Pull(id) => Word::Pull(place_of_pull(pulled, id.as_str())),
         WordDraft::Item => Word::Item,
     }
 }

@@ -4,8 +4,8 @@ use Rattle.bf_try.specs.declared.answers.Raw.{Raw}
 use Rattle.bf_core.specs.Terms.{Dag, Entry, Given, JobName, Ledger, Outcome, fits_in}
 use Rattle.bf_report.specs.declared.report.InstanceReport.{InstanceReport}
 use Rattle.bf_kept.specs.Kept.{IsAnsweredBy}
-use Rattle.bf_dependents.specs.Dependents.{has_in}
-use Rattle.bf_clear.specs.Entries.{entry_by, entry_of_try, found_at, given_by, outcome_of_try_in, told, worked_out_in}
+use Rattle.bf_dependents.specs.Dependents.{has_instance_in}
+use Rattle.bf_clear.specs.Entries.{entry_by, entry_of_try, found_at, given_by, outcome_of_try_in, told, given_by_values_in}
 use Rattle.bf_clear.specs.Keeping.{Clearance, fit_outcome, fitting, kept_in, kept_of, IsAnswerOf, IsRawFor}
 
 -- what is kept is looked up in one way or the other
@@ -46,14 +46,14 @@ raw_answers dag told x n given o same is =
 -- ---- by the report
 
 pub answers_here : (c : Clearance) (n : JobName) (given : Given) (x : InstanceReport) (o : Option Raw) →
-    nat_lt n.task (length c.dag.tasks) ≡ true → has_in c.dag c.cleared n.run n.task n.index ≡ false → found_at c.report n.run n.task n.index ≡ Some x →
-    IsAnswerOf c.dag (given_by c.report.version (worked_out_in c.dag c.report n.run n.task n.index) x) x n given o → IsAnsweredBy (kept_in c) n given o
+    nat_lt n.task (length c.dag.tasks) ≡ true → has_instance_in c.dag c.cleared n.run n.task n.index ≡ false → found_at c.report n.run n.task n.index ≡ Some x →
+    IsAnswerOf c.dag (given_by c.report.version (given_by_values_in c.dag c.report n.run n.task n.index) x) x n given o → IsAnsweredBy (kept_in c) n given o
 unfolding told
 answers_here c n given x o there beside found is =
-    answers_same (kept_in c) (λ m. fitting c.dag n.task (entry_of_try x.result n.attempt (given_by c.report.version (worked_out_in c.dag c.report n.run n.task n.index) x))) n given o
-    (ap (λ b. kept_of (b && not (has_in c.dag c.cleared n.run n.task n.index)) c.dag n.task (told c.dag c.report n)) there
+    answers_same (kept_in c) (λ m. fitting c.dag n.task (entry_of_try x.result n.attempt (given_by c.report.version (given_by_values_in c.dag c.report n.run n.task n.index) x))) n given o
+    (ap (λ b. kept_of (b && not (has_instance_in c.dag c.cleared n.run n.task n.index)) c.dag n.task (told c.dag c.report n)) there
     ∙ (ap (λ b. kept_of (not b) c.dag n.task (told c.dag c.report n)) beside
-    ∙ ap (λ m. fitting c.dag n.task (entry_by c.report.version (worked_out_in c.dag c.report n.run n.task n.index) m n.attempt)) found)) is
+    ∙ ap (λ m. fitting c.dag n.task (entry_by c.report.version (given_by_values_in c.dag c.report n.run n.task n.index) m n.attempt)) found)) is
 
 fitting_none : (b : Bool) (dag : Dag) (t : ℕ) → kept_of b dag t None ≡ None
 fitting_none true dag t = refl
@@ -64,5 +64,5 @@ pub answers_none : (c : Clearance) (n : JobName) (given : Given) → found_at c.
 unfolding told
 answers_none c n given none =
     none_kept (kept_in c) n given
-    (ap (λ m. kept_of (nat_lt n.task (length c.dag.tasks) && not (has_in c.dag c.cleared n.run n.task n.index)) c.dag n.task (entry_by c.report.version (worked_out_in c.dag c.report n.run n.task n.index) m n.attempt)) none
-    ∙ fitting_none (nat_lt n.task (length c.dag.tasks) && not (has_in c.dag c.cleared n.run n.task n.index)) c.dag n.task)
+    (ap (λ m. kept_of (nat_lt n.task (length c.dag.tasks) && not (has_instance_in c.dag c.cleared n.run n.task n.index)) c.dag n.task (entry_by c.report.version (given_by_values_in c.dag c.report n.run n.task n.index) m n.attempt)) none
+    ∙ fitting_none (nat_lt n.task (length c.dag.tasks) && not (has_instance_in c.dag c.cleared n.run n.task n.index)) c.dag n.task)

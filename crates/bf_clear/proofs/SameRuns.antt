@@ -24,7 +24,7 @@ use Rattle.bf_report.specs.declared.report.Report.{Report}
 use Rattle.bf_report.specs.Dated.{AreDated, IsDated, cell_by, ids_shown}
 use Rattle.bf_report.proofs.DatedFacts.{length_reports_from}
 use Rattle.bf_clear.specs.Aligning.{AreAligned, IsAligned, is_over, tasks_at, tasks_in, tasks_told, told_at}
-use Rattle.bf_clear.specs.Entries.{entry_by, found_at, instance_in, report_at, told, worked_out_in}
+use Rattle.bf_clear.specs.Entries.{entry_by, found_at, instance_in, report_at, told, given_by_values_in}
 use Rattle.bf_clear.specs.Matching.{is_same_interval_in}
 use Rattle.bf_clear.proofs.Aligned.{over_one}
 use Rattle.bf_clear.proofs.Own.{same_interval}
@@ -154,6 +154,6 @@ pub kept_tells : (dag : Dag) → IsNamed dag → (before intervals : List Interv
     → told dag aligned n ≡ ledger (record n { run = j })
 unfolding told
 kept_tells dag named before intervals of_runs ledger holds report aligned dated is interval j n at there =
-    same_entry aligned.version report.version (is.version ∙ dated.version) dated.version (worked_out_in dag aligned n.run n.task n.index) (worked_out_in dag report j n.task n.index) _ _
+    same_entry aligned.version report.version (is.version ∙ dated.version) dated.version (given_by_values_in dag aligned n.run n.task n.index) (given_by_values_in dag report j n.task n.index) _ _
     (same_found dag named before intervals of_runs ledger report aligned dated is interval j n.run at there n.task n.index) n.attempt
     ∙ told_is dag before ledger holds report dated (record n { run = j })

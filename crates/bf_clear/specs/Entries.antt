@@ -76,8 +76,8 @@ given_of from pulled (Some source) index =
     option_map (λ item. record { item = Some item; pulled = pulled }) (item_in (from source) index)
 
 -- what the values of the report give the instance of that index of the task in the run
-unfoldable pub worked_out_in : Dag → Report → ℕ → ℕ → ℤ → Option Given
-worked_out_in dag report run task index =
+unfoldable pub given_by_values_in : Dag → Report → ℕ → ℕ → ℤ → Option Given
+given_by_values_in dag report run task index =
     given_of (pull_from dag report run) (map (pull_from dag report run) (task_of dag task).pulls)
     (task_of dag task).expand index
 
@@ -110,7 +110,7 @@ entry_by version worked (Some instance) attempt =
 -- the entries that a report tells of, by their names: version 2 tells what they were given, and for version 1 it is worked out
 unfoldable pub told : Dag → Report → Ledger
 told dag report name =
-    entry_by report.version (worked_out_in dag report name.run name.task name.index)
+    entry_by report.version (given_by_values_in dag report name.run name.task name.index)
     (found_at report name.run name.task name.index) name.attempt
 
 -- what stands in the report is of tasks and runs that are there

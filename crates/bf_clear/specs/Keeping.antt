@@ -12,7 +12,7 @@ use Rattle.bf_report.specs.declared.report.InstanceReport.{InstanceReport}
 use Rattle.bf_report.specs.declared.report.Report.{Report}
 use Rattle.bf_kept.specs.Kept.{IsAnsweredBy}
 use Rattle.bf_dependents.specs.declared.place.Place.{Place}
-use Rattle.bf_dependents.specs.Dependents.{has_in, Following, IsBeside}
+use Rattle.bf_dependents.specs.Dependents.{has_instance_in, Following, IsBeside}
 use Rattle.bf_clear.specs.Entries.{entry_of_try, told}
 
 -- an entry is kept exactly where the report tells of it, it isn't cleared, and its outcome fits
@@ -41,7 +41,7 @@ kept_of beside dag task entry = if beside then fitting dag task entry else None
 abbrev pub kept_in : Clearance → Ledger
 kept_in clearance name =
     kept_of (nat_lt name.task (length clearance.dag.tasks)
-    && not (has_in clearance.dag clearance.cleared name.run name.task name.index)) clearance.dag
+    && not (has_instance_in clearance.dag clearance.cleared name.run name.task name.index)) clearance.dag
     name.task (told clearance.dag clearance.report name)
 
 -- ---- answers

@@ -46,7 +46,7 @@ fn ids_of(alloc: Global, tasks: &[Task]) -> Result<Sequence<Text>, OutOfMemory>
 }
 
 /// Takes what is told at a place.
-fn take_at(tasks: &mut Sequence<TaskReport>, place: Option<usize>) -> TaskReport
+fn take_task_at(tasks: &mut Sequence<TaskReport>, place: Option<usize>) -> TaskReport
     ensures told { result ≡ told_at tasks.old place }
     ensures others { (other : Option ℕ) → (place ≡ other → place ≡ None)
         → told_at tasks.new other ≡ told_at tasks.old other }
@@ -58,7 +58,7 @@ fn take_at(tasks: &mut Sequence<TaskReport>, place: Option<usize>) -> TaskReport
 }
 
 /// What is told of each task, by the places of all.
-fn tasks_by(
+fn tasks_at_places(
     alloc: Global,
     places: &[Option<usize>],
     mut told: Sequence<TaskReport>,
@@ -68,12 +68,12 @@ fn tasks_by(
 {
     let mut tasks = Vec::with_capacity(alloc, places.len())?;
     for i in 0..places.len() {
-        tasks.push(take_at(&mut told, places[i]))?;
+        tasks.push(take_task_at(&mut told, places[i]))?;
     }
     Ok(Sequence::from_vec(tasks))
 }
 
-fn place_at(runs: &[RunReport], interval: &Interval) -> Option<usize>
+fn place_over(runs: &[RunReport], interval: &Interval) -> Option<usize>
     ensures { result ≡ position (is_over interval.now) runs.now }
 {
     runs.iter()
@@ -86,14 +86,14 @@ fn take_tasks(alloc: Global, runs: &mut Vec<RunReport>, interval: &Interval) -> 
     ensures others { (other : Interval) → other.start.nanosecond ≢ interval.now.start.nanosecond
         → tasks_at runs.new.items other ≡ tasks_at runs.old.items other }
 {
-    match place_at(runs.as_slice(), interval) {
+    match place_over(runs.as_slice(), interval) {
         Some(place) => mem::replace(&mut runs[place].tasks, Sequence::new(alloc)),
         None => Sequence::new(alloc),
     }
 }
 
 /// What is told of each run.
-fn runs_by(
+fn runs_over(
     alloc: Global,
     places: &[Option<usize>],
     mut told: Vec<RunReport>,
@@ -111,7 +111,7 @@ fn runs_by(
         runs.push(RunReport {
             interval,
             state: RunState::Failed,
-            tasks: tasks_by(alloc, places, tasks)?,
+            tasks: tasks_at_places(alloc, places, tasks)?,
         })?;
     }
     Ok(Sequence::from_vec(runs))
@@ -130,7 +130,7 @@ pub(crate) fn align(
     let dag = plan.dag();
     let tasks = dag.tasks.as_slice();
     let places = places_of(alloc, report.tasks.as_slice(), tasks)?;
-    let runs = runs_by(
+    let runs = runs_over(
         alloc,
         places.as_slice(),
         report.runs.into_vec(),

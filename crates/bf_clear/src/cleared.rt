@@ -73,7 +73,11 @@ impl KeptTries for Cleared<'_> {
     ) -> Result<Option<Raw>, OutOfMemory> {
         let dag = self.plan.dag();
         let is_task = (name.task as usize) < dag.tasks.len();
-        if !is_task || self.cleared.has(dag, name.run, name.task, name.index) {
+        if !is_task
+            || self
+                .cleared
+                .has_instance(dag, name.run, name.task, name.index)
+        {
             return Ok(None);
         }
         match instance_at(&self.report, name) {

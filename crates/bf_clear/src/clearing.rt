@@ -18,7 +18,7 @@ use bf_value::OutOfMemory;
 use std::alloc::Global;
 
 /// What is kept of a report of tasks and runs that are there, where these places are cleared.
-fn kept_beside<'a>(
+fn clear_places_within<'a>(
     alloc: Global,
     plan: &'a Plan,
     runs: &Runs,
@@ -42,7 +42,7 @@ fn kept_beside<'a>(
 /// interval of its run, the id of its task, its map index and its number, but for outcomes that the plan doesn't allow.
 ///
 /// Refused is a report of another graph.
-pub fn keep_places<'a>(
+pub fn clear_places_by_ids<'a>(
     alloc: Global,
     plan: &'a Plan,
     runs: &Runs,
@@ -61,7 +61,7 @@ pub fn keep_places<'a>(
         return Err(ClearFault::ReportMismatch);
     }
     let told = align(alloc, plan, runs, report)?;
-    let kept = kept_beside(alloc, plan, runs, told, places)?;
+    let kept = clear_places_within(alloc, plan, runs, told, places)?;
     Ok(kept)
 }
 
@@ -89,6 +89,6 @@ pub fn clear_places<'a>(
     if !is_report_of(plan.dag(), runs.intervals(), &report) {
         return Err(ClearFault::ReportMismatch);
     }
-    let kept = kept_beside(alloc, plan, runs, report, places)?;
+    let kept = clear_places_within(alloc, plan, runs, report, places)?;
     Ok(kept)
 }

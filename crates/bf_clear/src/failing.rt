@@ -58,7 +58,7 @@ fn add_failed(
     Ok(())
 }
 
-fn instances_at(report: &Report, run: u32, task: u32) -> usize
+fn instance_count_at(report: &Report, run: u32, task: u32) -> usize
     ensures count { result ≡ count_at report.now run task }
     ensures few { result ≤ 2_147_483_648 }
 {
@@ -68,7 +68,7 @@ fn instances_at(report: &Report, run: u32, task: u32) -> usize
     }
 }
 
-fn add_of_task(
+fn add_failed_of_task(
     alloc: Global,
     report: &Report,
     run: u32,
@@ -79,13 +79,13 @@ fn add_of_task(
         ++ failed_of_task_in report.now run task) }
 {
     add_failed(alloc, report, first_try(run, task, -1), found)?;
-    for place in 0..instances_at(report, run, task) {
+    for place in 0..instance_count_at(report, run, task) {
         add_failed(alloc, report, first_try(run, task, place as i32), found)?;
     }
     Ok(())
 }
 
-fn add_of_run(
+fn add_failed_of_run(
     alloc: Global,
     report: &Report,
     run: u32,
@@ -96,7 +96,7 @@ fn add_of_run(
         ++ failed_of_run report.now tasks run) }
 {
     for task in 0..tasks {
-        add_of_task(alloc, report, run, task, found)?;
+        add_failed_of_task(alloc, report, run, task, found)?;
     }
     Ok(())
 }
@@ -111,7 +111,7 @@ fn failed_in(
 {
     let mut found = Vec::new(alloc);
     for run in 0..runs {
-        add_of_run(alloc, report, run, tasks, &mut found)?;
+        add_failed_of_run(alloc, report, run, tasks, &mut found)?;
     }
     Ok(found)
 }

@@ -11,19 +11,19 @@ mod aligning;
 mod cleared;
 mod clearing;
 mod failing;
+mod given;
 mod laws;
 mod looking;
 mod matching;
 mod telling;
-mod working;
 
 pub use cleared::Cleared;
-pub use clearing::{clear_places, keep_places};
+pub use clearing::{clear_places, clear_places_by_ids};
 pub use failing::failed_places;
+pub use given::value_of;
 pub use laws::{
     kept_reports_tell_ledgers, own_reports_match, reports_tell_ledgers,
     resumed_backfills_keep_the_rest,
 };
 pub use looking::task_at;
 pub use matching::is_report_of;
-pub use working::value_of;

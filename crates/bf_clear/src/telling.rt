@@ -1,9 +1,9 @@
 //! What a report tells of a try.
 ghost use Rattle.std.specs.Prelude.{◌≡◌, ◌<◌, ◌↔◌, length, map, Some, IsTrue, IfOk};
-ghost use Rattle.bf_clear.specs.Entries.{given_by, given_in, outcome_of_try_in, worked_out_in};
+ghost use Rattle.bf_clear.specs.Entries.{given_by, given_in, outcome_of_try_in, given_by_values_in};
 ghost use Rattle.bf_clear.specs.Keeping.{fit_outcome, IsAnswerOf, IsRawFor};
 
-use crate::working::was_worked_out;
+use crate::given::is_given_by_values;
 use bf_plan::Plan;
 use bf_report::{InstanceReport, Pull, Report, Version};
 use bf_try::{Outcome, Raw, answer_for, fits};
@@ -44,12 +44,12 @@ fn was_given(
 ) -> Result<bool, OutOfMemory>
     requires { name.task < length plan.now.dag.tasks }
     ensures { IfOk result (λ was. IsTrue was ↔
-        (given_by report.now.version (worked_out_in plan.now.dag report.now name.run name.task
+        (given_by report.now.version (given_by_values_in plan.now.dag report.now name.run name.task
         name.index) instance.now ≡ Some given.now)) }
 {
     match report.version {
         Version::Two => Ok(tells_given(instance, given)),
-        Version::One => was_worked_out(alloc, plan.dag(), report, name, given),
+        Version::One => is_given_by_values(alloc, plan.dag(), report, name, given),
     }
 }
 
@@ -89,7 +89,7 @@ pub(crate) fn answer_of_instance(
 ) -> Result<Option<Raw>, OutOfMemory>
     requires { name.task < length plan.now.dag.tasks }
     ensures { IfOk result (IsAnswerOf plan.now.dag
-        (given_by report.now.version (worked_out_in plan.now.dag report.now name.run name.task
+        (given_by report.now.version (given_by_values_in plan.now.dag report.now name.run name.task
         name.index) instance.now) instance.now name given.now) }
 {
     let was_given = was_given(alloc, plan, report, name, instance, given)?;

@@ -59,18 +59,18 @@ pub enum CommandFault {
 
 impl CommandFault {
     /// The number of a refusal.
-    pub fn number(&self) -> Option<u32>
+    pub fn refusal_number(&self) -> Option<u32>
         ensures { result ≡ number_of self.now }
     {
         match self {
-            CommandFault::Read(fault) => fault.number(),
-            CommandFault::Check(fault) => fault.number(),
-            CommandFault::Table(fault) => fault.number(),
-            CommandFault::Range(fault) => fault.number(),
-            CommandFault::Report(fault) => fault.number(),
-            CommandFault::Journal(fault) => fault.number(),
-            CommandFault::Clear(fault) => fault.number(),
-            CommandFault::Seeds(fault) => fault.number(),
+            CommandFault::Read(fault) => fault.refusal_number(),
+            CommandFault::Check(fault) => fault.refusal_number(),
+            CommandFault::Table(fault) => fault.refusal_number(),
+            CommandFault::Range(fault) => fault.refusal_number(),
+            CommandFault::Report(fault) => fault.refusal_number(),
+            CommandFault::Journal(fault) => fault.refusal_number(),
+            CommandFault::Clear(fault) => fault.refusal_number(),
+            CommandFault::Seeds(fault) => fault.refusal_number(),
             CommandFault::JournalInUse => Some(44),
             CommandFault::UnknownIndex => Some(46),
             CommandFault::BadMoment => Some(28),
@@ -87,7 +87,7 @@ impl CommandFault {
     pub fn status(&self) -> Status
         ensures { result ≡ status_of self.now }
     {
-        match self.number() {
+        match self.refusal_number() {
             Some(_) => Status::Refused,
             None => Status::Fault,
         }
@@ -97,7 +97,7 @@ impl CommandFault {
     pub fn line(&self, alloc: Global) -> Result<String, OutOfMemory>
         ensures { IfOk result (λ line. string_bytes line ≡ line_of self.now) }
     {
-        let line = match self.number() {
+        let line = match self.refusal_number() {
             Some(number) => format!(in alloc; "refused {number} {self}\n"),
             None => format!(in alloc; "fault: {self}\n"),
         };

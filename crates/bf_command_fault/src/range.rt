@@ -17,11 +17,11 @@ pub enum RangeFault {
 
 impl RangeFault {
     /// The number of the refusal.
-    pub fn number(self) -> Option<u32>
+    pub fn refusal_number(self) -> Option<u32>
         ensures { result ≡ range_number self }
     {
         match self {
-            RangeFault::Unlisted(fault) => fault.number(),
+            RangeFault::Unlisted(fault) => fault.refusal_number(),
             RangeFault::NoRuns => Some(29),
         }
     }

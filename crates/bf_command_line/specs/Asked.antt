@@ -36,18 +36,18 @@ says_true None = false
 says_true (Some text) = bytes_eq text (codes "true")
 
 -- the text is this one
-abbrev pub says_in : Option Text → Text → Bool
-says_in None words = false
-says_in (Some text) words = bytes_eq text words
+abbrev pub says_word_in : Option Text → Text → Bool
+says_word_in None words = false
+says_word_in (Some text) words = bytes_eq text words
 
 -- the path is that of a graph, a table, a zone file, seeds or a journal
 abbrev pub is_overwritten_in : List Row → Option Text → Bool
 is_overwritten_in rows None = false
-is_overwritten_in rows (Some path) = says_in (first_of (codes "graph") rows) path
-    || (says_in (first_of (codes "table") rows) path
-    || (says_in (first_of (codes "zone_file") rows) path
-    || (says_in (first_of (codes "seeds") rows) path
-    || says_in (first_of (codes "journal") rows) path)))
+is_overwritten_in rows (Some path) = says_word_in (first_of (codes "graph") rows) path
+    || (says_word_in (first_of (codes "table") rows) path
+    || (says_word_in (first_of (codes "zone_file") rows) path
+    || (says_word_in (first_of (codes "seeds") rows) path
+    || says_word_in (first_of (codes "journal") rows) path)))
 
 -- where data intervals start: the first and the last moment of a range, or days
 abbrev pub IsStartsBy : List Row → StartsAsked → Type 0
@@ -160,8 +160,8 @@ abbrev pub is_given_in : Text → List Row → Bool
 is_given_in id rows = is_some (first_of id rows)
 
 -- something is told of a grid
-abbrev pub has_grid_in : List Row → Bool
-has_grid_in rows =
+abbrev pub has_grid_options_in : List Row → Bool
+has_grid_options_in rows =
     is_given_in (codes "graph") rows
     || (is_given_in (codes "report") rows || (is_given_in (codes "zone_file") rows
     || (is_given_in (codes "from") rows
@@ -285,7 +285,7 @@ IsAskedBy (Some (name, rows)) (Show s) = (name ≡ codes "show")
     × IsColorBy (first_of (codes "color") rows) s.color
 IsAskedBy (Some (name, rows)) (ShowJson report) = (name ≡ codes "show")
     × (first_of (codes "json") rows ≡ Some (string_bytes report))
-    × (has_grid_in rows ≡ false)
+    × (has_grid_options_in rows ≡ false)
 IsAskedBy (Some (name, rows)) (Page p) = (name ≡ codes "page")
     × IsGraphBy rows p.graph
     × (first_of (codes "report") rows ≡ Some (string_bytes p.report))

@@ -4,7 +4,7 @@ use Rattle.std.specs.List.{list_any}
 use Rattle.clap.specs.Kinds.{or_else}
 use Rattle.clap.specs.Words.{Kinds, Row, Text, fault_of, first_of, subcommand_of}
 use Rattle.clap.specs.declared.error.kind.ErrorKind.TheVariants.{ArgumentConflict, InvalidValue, MissingRequiredArgument, WrongNumberOfValues}
-use Rattle.bf_command_line.specs.Asked.{color_word, format_word, has_grid_in, has_seeds_in, has_some, is_given_in, is_overwritten_in, says_true, shell_word, texts_in}
+use Rattle.bf_command_line.specs.Asked.{color_word, format_word, has_grid_options_in, has_seeds_in, has_some, is_given_in, is_overwritten_in, says_true, shell_word, texts_in}
 use Rattle.bf_grammar.specs.Grammar.{backfill_app}
 use Rattle.bf_command_line.specs.declared.forms.Color.TheVariants.{Always, Auto, Never}
 use Rattle.bf_command_line.specs.declared.forms.Format.TheVariants.{Graph, Table}
@@ -88,7 +88,7 @@ clear_wrongs rows = or_else (cleared_wrongs rows) (programs_wrongs rows)
 -- a report stands beside a graph, or alone behind `--json`
 abbrev pub show_wrongs : List Row → Kinds
 show_wrongs rows =
-    if is_given_in (codes "json") rows then (if has_grid_in rows then ArgumentConflict ∷ [] else [])
+    if is_given_in (codes "json") rows then (if has_grid_options_in rows then ArgumentConflict ∷ [] else [])
     else (if is_given_in (codes "graph") rows && is_given_in (codes "report") rows
     then value_wrongs color_words (first_of (codes "color") rows)
     else MissingRequiredArgument ∷ [])

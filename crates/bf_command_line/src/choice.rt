@@ -5,7 +5,7 @@ ghost use Rattle.bf_command_line.specs.Wrongs.{color_words, format_words, shell_
 ghost use Rattle.bf_command_line.specs.Asked.{IsColorBy, IsFormatBy, IsShellBy};
 
 use crate::forms::{Color, Format, Shell};
-use crate::refusal::{no_color_word, no_format, no_shell};
+use crate::refusal::{unknown_color_error, unknown_format_error, unknown_shell_error};
 use clap::{ArgMatches, Error};
 use std::alloc::{AllocError, Global};
 
@@ -19,7 +19,7 @@ pub(crate) fn format_asked(alloc: Global, matches: &ArgMatches<'_>) -> Result<Fo
     match matches.get_str("format") {
         Some("graph") => Ok(Format::Graph),
         Some("table") => Ok(Format::Table),
-        Some(_) => Err(no_format(alloc)?),
+        Some(_) => Err(unknown_format_error(alloc)?),
         None => Err(AllocError.into()),
     }
 }
@@ -34,7 +34,7 @@ pub(crate) fn shell_asked(alloc: Global, matches: &ArgMatches<'_>) -> Result<She
         Some("bash") => Ok(Shell::Bash),
         Some("zsh") => Ok(Shell::Zsh),
         Some("fish") => Ok(Shell::Fish),
-        Some(_) => Err(no_shell(alloc)?),
+        Some(_) => Err(unknown_shell_error(alloc)?),
         None => Err(AllocError.into()),
     }
 }
@@ -50,6 +50,6 @@ pub(crate) fn color_asked(alloc: Global, matches: &ArgMatches<'_>) -> Result<Col
         Some("auto") | None => Ok(Color::Auto),
         Some("always") => Ok(Color::Always),
         Some("never") => Ok(Color::Never),
-        Some(_) => Err(no_color_word(alloc)?),
+        Some(_) => Err(unknown_color_error(alloc)?),
     }
 }

@@ -6,8 +6,12 @@ ghost use Rattle.bf_command_line.specs.Asked.{has_seeds_in, texts_in, AreSeedsBy
 
 use crate::forms::{Asked, ClearAsked, ClearPlanAsked, ClearedAsked, SeedAsked};
 use crate::programs::programs_asked;
-use crate::refusal::{cleared_twice, nothing_cleared, odd_indexes, unpaired};
-use crate::value::{count_of, is_told, optional, required, required_at, text_at};
+use crate::refusal::{
+    cleared_twice_error, nothing_cleared_error, unpaired_indexes_error, unpaired_tasks_error,
+};
+use crate::value::{
+    is_flag_set, optional_text, required_text, required_text_at, text_at, value_count_of,
+};
 use clap::{ArgMatches, Error};
 use std::alloc::{AllocError, Global};
 
@@ -28,8 +32,8 @@ fn seed_at(alloc: Global, matches: &ArgMatches<'_>, place: usize) -> Result<Seed
     ensures { IfOk result (IsSeedAt (rows_of (found_of matches.now)) place) }
 {
     Ok(SeedAsked {
-        task: required_at(alloc, matches, "task", place)?,
-        run: required_at(alloc, matches, "run", place)?,
+        task: required_text_at(alloc, matches, "task", place)?,
+        run: required_text_at(alloc, matches, "run", place)?,
         index: index_at(matches, place)?,
     })
 }
@@ -38,7 +42,7 @@ fn seeds_asked(alloc: Global, matches: &ArgMatches<'_>) -> Result<Vec<SeedAsked>
     ensures { IfOk result (λ seeds. AreSeedsBy (rows_of (found_of matches.now)) seeds.items) }
 {
     let mut seeds = Vec::new(alloc);
-    for place in 0..count_of(matches, "task") {
+    for place in 0..value_count_of(matches, "task") {
         let seed = seed_at(alloc, matches, place)?;
         seeds.push(seed)?;
     }
@@ -48,22 +52,22 @@ fn seeds_asked(alloc: Global, matches: &ArgMatches<'_>) -> Result<Vec<SeedAsked>
 fn has_seeds(matches: &ArgMatches<'_>) -> bool
     ensures { result ≡ has_seeds_in (rows_of (found_of matches.now)) }
 {
-    count_of(matches, "task") != 0
-        || count_of(matches, "run") != 0
-        || count_of(matches, "index") != 0
+    value_count_of(matches, "task") != 0
+        || value_count_of(matches, "run") != 0
+        || value_count_of(matches, "index") != 0
 }
 
 fn refuse_unpaired(alloc: Global, matches: &ArgMatches<'_>) -> Result<(), Error>
     ensures { FailsBy (seeds_wrongs (rows_of (found_of matches.now))) result }
 {
-    let tasks = count_of(matches, "task");
-    let runs = count_of(matches, "run");
-    let indexes = count_of(matches, "index");
+    let tasks = value_count_of(matches, "task");
+    let runs = value_count_of(matches, "run");
+    let indexes = value_count_of(matches, "index");
     if tasks != runs {
-        return Err(unpaired(alloc)?);
+        return Err(unpaired_tasks_error(alloc)?);
     }
     if indexes != 0 && indexes != tasks {
-        return Err(odd_indexes(alloc)?);
+        return Err(unpaired_indexes_error(alloc)?);
     }
     Ok(())
 }
@@ -73,9 +77,9 @@ fn cleared_asked(alloc: Global, matches: &ArgMatches<'_>) -> Result<ClearedAsked
     ensures ok { IfOk result (IsClearedBy (rows_of (found_of matches.now))) }
     ensures err { FailsBy (cleared_wrongs (rows_of (found_of matches.now))) result }
 {
-    let file = optional(alloc, matches, "seeds")?;
+    let file = optional_text(alloc, matches, "seeds")?;
     let seeds = has_seeds(matches);
-    let failed = is_told(matches, "failed");
+    let failed = is_flag_set(matches, "failed");
     match (file, seeds, failed) {
         (None, true, false) => {
             refuse_unpaired(alloc, matches)?;
@@ -84,9 +88,9 @@ fn cleared_asked(alloc: Global, matches: &ArgMatches<'_>) -> Result<ClearedAsked
         }
         (Some(path), false, false) => Ok(ClearedAsked::File(path)),
         (None, false, true) => Ok(ClearedAsked::Failed),
-        (None, false, false) => Err(nothing_cleared(alloc)?),
-        (None, true, true) => Err(cleared_twice(alloc)?),
-        (Some(_), _, _) => Err(cleared_twice(alloc)?),
+        (None, false, false) => Err(nothing_cleared_error(alloc)?),
+        (None, true, true) => Err(cleared_twice_error(alloc)?),
+        (Some(_), _, _) => Err(cleared_twice_error(alloc)?),
     }
 }
 
@@ -100,9 +104,9 @@ pub(crate) fn clear_asked(
 {
     let cleared = cleared_asked(alloc, matches)?;
     let run = programs_asked(alloc, name, matches)?;
-    let report = required(alloc, matches, "report")?;
-    let table = optional(alloc, matches, "table")?;
-    if is_told(matches, "plan") {
+    let report = required_text(alloc, matches, "report")?;
+    let table = optional_text(alloc, matches, "table")?;
+    if is_flag_set(matches, "plan") {
         return Ok(Asked::ClearPlan(ClearPlanAsked {
             graph: run.graph,
             report,

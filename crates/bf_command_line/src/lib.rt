@@ -7,11 +7,11 @@
 mod choice;
 mod clearing;
 mod forms;
-mod keeping;
 mod programs;
 mod range;
 mod reading;
 mod refusal;
+mod run_and_dry;
 mod showing;
 mod value;
 mod viewing;

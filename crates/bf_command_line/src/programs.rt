@@ -6,8 +6,8 @@ ghost use Rattle.bf_command_line.specs.Asked.{IsJournalBy, IsLogsBy, IsProgramsB
 
 use crate::forms::{JournalAsked, RunAsked};
 use crate::range::{graph_asked, range_asked};
-use crate::refusal::{no_folder, no_journal};
-use crate::value::{is_told, number_asked, optional};
+use crate::refusal::{missing_journal_error, unnamed_folder_error};
+use crate::value::{is_flag_set, optional_number, optional_text};
 use bf_workers::Workers;
 use clap::{ArgMatches, Error};
 use std::alloc::{AllocError, Global};
@@ -34,15 +34,15 @@ fn journal_asked(
     ensures ok { IfOk result (IsJournalBy (rows_of (found_of matches.now))) }
     ensures err { FailsBy (journal_wrongs (rows_of (found_of matches.now))) result }
 {
-    let stop_after = number_asked(matches, "stop_after")?;
-    let retry_failed = is_told(matches, "retry_failed");
-    match optional(alloc, matches, "journal")? {
+    let stop_after = optional_number(matches, "stop_after")?;
+    let retry_failed = is_flag_set(matches, "retry_failed");
+    match optional_text(alloc, matches, "journal")? {
         Some(path) => Ok(Some(JournalAsked {
             path,
             stop_after,
             retry_failed,
         })),
-        None if stop_after.is_some() || retry_failed => Err(no_journal(alloc, name)?),
+        None if stop_after.is_some() || retry_failed => Err(missing_journal_error(alloc, name)?),
         None => Ok(None),
     }
 }
@@ -53,8 +53,8 @@ fn logs_asked(alloc: Global, name: &str, matches: &ArgMatches<'_>) -> Result<Opt
     ensures err { FailsBy (empty_wrongs
         (first_of (codes "logs") (rows_of (found_of matches.now)))) result }
 {
-    match optional(alloc, matches, "logs")? {
-        Some(folder) if folder.is_empty() => Err(no_folder(alloc, name)?),
+    match optional_text(alloc, matches, "logs")? {
+        Some(folder) if folder.is_empty() => Err(unnamed_folder_error(alloc, name)?),
         folder => Ok(folder),
     }
 }
@@ -76,9 +76,9 @@ pub(crate) fn programs_asked(
         graph: graph_asked(alloc, matches)?,
         range,
         workers,
-        progress: is_told(matches, "progress") && !is_told(matches, "quiet"),
-        quiet: is_told(matches, "quiet"),
-        launcher: optional(alloc, matches, "launcher")?,
+        progress: is_flag_set(matches, "progress") && !is_flag_set(matches, "quiet"),
+        quiet: is_flag_set(matches, "quiet"),
+        launcher: optional_text(alloc, matches, "launcher")?,
         logs,
         journal,
     })

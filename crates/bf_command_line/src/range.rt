@@ -5,8 +5,8 @@ ghost use Rattle.bf_command_line.specs.Wrongs.{range_wrongs};
 ghost use Rattle.bf_command_line.specs.Asked.{IsGraphBy, IsRangeBy, IsStartsBy};
 
 use crate::forms::{GraphAsked, RangeAsked, StartsAsked};
-use crate::refusal::{no_range, two_ranges};
-use crate::value::{is_told, optional, required};
+use crate::refusal::{missing_range_error, two_ranges_error};
+use crate::value::{is_flag_set, optional_text, required_text};
 use clap::{ArgMatches, Error};
 use std::alloc::{AllocError, Global};
 
@@ -14,8 +14,8 @@ pub(crate) fn graph_asked(alloc: Global, matches: &ArgMatches<'_>) -> Result<Gra
     ensures { IfOk result (IsGraphBy (rows_of (found_of matches.now))) }
 {
     Ok(GraphAsked {
-        graph: required(alloc, matches, "graph")?,
-        zone_file: optional(alloc, matches, "zone_file")?,
+        graph: required_text(alloc, matches, "graph")?,
+        zone_file: optional_text(alloc, matches, "zone_file")?,
     })
 }
 
@@ -24,14 +24,14 @@ fn starts_asked(alloc: Global, name: &str, matches: &ArgMatches<'_>) -> Result<S
     ensures ok { IfOk result (IsStartsBy (rows_of (found_of matches.now))) }
     ensures err { FailsBy (range_wrongs (rows_of (found_of matches.now))) result }
 {
-    let days = optional(alloc, matches, "on")?;
-    let from = optional(alloc, matches, "from")?;
-    let to = optional(alloc, matches, "to")?;
+    let days = optional_text(alloc, matches, "on")?;
+    let from = optional_text(alloc, matches, "from")?;
+    let to = optional_text(alloc, matches, "to")?;
     match (days, from, to) {
         (None, Some(from), Some(to)) => Ok(StartsAsked::Between { from, to }),
         (Some(days), None, None) => Ok(StartsAsked::On(days)),
-        (None, _, _) => Err(no_range(alloc, name)?),
-        (Some(_), _, _) => Err(two_ranges(alloc, name)?),
+        (None, _, _) => Err(missing_range_error(alloc, name)?),
+        (Some(_), _, _) => Err(two_ranges_error(alloc, name)?),
     }
 }
 
@@ -44,6 +44,6 @@ pub(crate) fn range_asked(
     ensures err { FailsBy (range_wrongs (rows_of (found_of matches.now))) result }
 {
     let starts = starts_asked(alloc, name, matches)?;
-    let some = is_told(matches, "some");
+    let some = is_flag_set(matches, "some");
     Ok(RangeAsked { starts, some })
 }

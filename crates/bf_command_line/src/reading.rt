@@ -8,13 +8,13 @@ ghost use Rattle.bf_command_line.specs.Asked.{is_overwritten_in, IsAskedBy, IsLi
 use crate::choice::{format_asked, shell_asked};
 use crate::clearing::clear_asked;
 use crate::forms::{Asked, CheckAsked, CommandLine, ListAsked, SingleAsked};
-use crate::keeping::{dry_asked, run_asked};
 use crate::range::{graph_asked, range_asked};
-use crate::refusal::overwriting;
+use crate::refusal::overwriting_error;
+use crate::run_and_dry::{dry_asked, run_asked};
 use crate::showing::show_asked;
-use crate::value::{is_told, optional, required, says};
+use crate::value::{is_flag_set, optional_text, required_text, says_word};
 use crate::viewing::{answers_asked, explain_asked, page_asked};
-use bf_grammar::backfill;
+use bf_grammar::backfill_command;
 use clap::{ArgMatches, Error};
 use std::alloc::{AllocError, Global};
 
@@ -35,7 +35,7 @@ fn matches_of<'a>(alloc: Global, words: &'a [String]) -> Result<ArgMatches<'a>, 
         ≡ subcommand_of backfill_app (map string_bytes words.entry.now)) }
     ensures err { FailsBy (fault_of backfill_app (map string_bytes words.entry.now)) result }
 {
-    backfill(alloc)?.try_get_matches_from(words)
+    backfill_command(alloc)?.try_get_matches_from(words)
 }
 
 // `clap` has seen to it that a subcommand and what it requires are there. No contract hands this on
@@ -47,7 +47,7 @@ fn line_asked(alloc: Global, matches: &ArgMatches<'_>) -> Result<CommandLine, Er
     match matches.subcommand() {
         Some((name, inner)) => {
             let out = out_asked(alloc, name, inner)?;
-            let command = named_asked(alloc, name, inner)?;
+            let command = subcommand_asked(alloc, name, inner)?;
             Ok(CommandLine { command, out })
         }
         None => Err(AllocError.into()),
@@ -58,11 +58,11 @@ fn line_asked(alloc: Global, matches: &ArgMatches<'_>) -> Result<CommandLine, Er
 fn is_overwritten(matches: &ArgMatches<'_>, path: &str) -> bool
     ensures { result ≡ is_overwritten_in (rows_of (found_of matches.now)) (Some path.now) }
 {
-    says(matches, "graph", path)
-        || says(matches, "table", path)
-        || says(matches, "zone_file", path)
-        || says(matches, "seeds", path)
-        || says(matches, "journal", path)
+    says_word(matches, "graph", path)
+        || says_word(matches, "table", path)
+        || says_word(matches, "zone_file", path)
+        || says_word(matches, "seeds", path)
+        || says_word(matches, "journal", path)
 }
 
 /// Where the report of a command of this name goes, if it isn't printed.
@@ -71,17 +71,17 @@ fn out_asked(alloc: Global, name: &str, matches: &ArgMatches<'_>) -> Result<Opti
         ≡ option_map string_bytes out) }
     ensures err { FailsBy (out_wrongs (rows_of (found_of matches.now))) result }
 {
-    let Some(path) = optional(alloc, matches, "out")? else {
+    let Some(path) = optional_text(alloc, matches, "out")? else {
         return Ok(None);
     };
     if is_overwritten(matches, &path) {
-        return Err(overwriting(alloc, name)?);
+        return Err(overwriting_error(alloc, name)?);
     }
     Ok(Some(path))
 }
 
 /// What the subcommand of this name asks for.
-fn named_asked(alloc: Global, name: &str, matches: &ArgMatches<'_>) -> Result<Asked, Error>
+fn subcommand_asked(alloc: Global, name: &str, matches: &ArgMatches<'_>) -> Result<Asked, Error>
     ensures ok { IfOk result (IsAskedBy (Some (name.now, rows_of (found_of matches.now)))) }
     ensures err { FailsBy (command_wrongs name.now (rows_of (found_of matches.now))) result }
 {
@@ -95,12 +95,12 @@ fn named_asked(alloc: Global, name: &str, matches: &ArgMatches<'_>) -> Result<As
         "dry" => dry_asked(alloc, name, matches),
         "explain" => explain_asked(alloc, matches),
         "answers" => Ok(answers_asked(alloc, matches)?),
-        _ => Ok(over_graph_asked(alloc, name, matches)?),
+        _ => Ok(rangeless_command_asked(alloc, name, matches)?),
     }
 }
 
 /// The same, of those over a graph that have no range.
-fn over_graph_asked(
+fn rangeless_command_asked(
     alloc: Global,
     name: &str,
     matches: &ArgMatches<'_>,
@@ -120,7 +120,7 @@ fn check_asked(alloc: Global, matches: &ArgMatches<'_>) -> Result<Asked, AllocEr
 {
     Ok(Asked::Check(CheckAsked {
         graph: graph_asked(alloc, matches)?,
-        explain: is_told(matches, "explain"),
+        explain: is_flag_set(matches, "explain"),
     }))
 }
 
@@ -138,7 +138,7 @@ fn single_asked(alloc: Global, matches: &ArgMatches<'_>) -> Result<Asked, AllocE
 {
     Ok(Asked::Single(SingleAsked {
         graph: graph_asked(alloc, matches)?,
-        table: required(alloc, matches, "table")?,
-        at: required(alloc, matches, "at")?,
+        table: required_text(alloc, matches, "table")?,
+        at: required_text(alloc, matches, "at")?,
     }))
 }

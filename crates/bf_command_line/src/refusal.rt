@@ -2,7 +2,7 @@
 ghost use Rattle.std.specs.Prelude.{◌≡◌, IfOk};
 ghost use Rattle.clap.specs.Words.{kind_of};
 
-use bf_grammar::refuse;
+use bf_grammar::refusal_of;
 use clap::Error;
 use clap::error::ErrorKind;
 use std::alloc::{AllocError, Global};
@@ -50,45 +50,45 @@ const NO_SHELL: &str = "invalid value for '<SHELL>'\n\
     \x20 [possible values: bash, zsh, fish]";
 
 /// What is said where it isn't told where data intervals start.
-pub(crate) fn no_range(alloc: Global, name: &str) -> Result<Error, AllocError>
+pub(crate) fn missing_range_error(alloc: Global, name: &str) -> Result<Error, AllocError>
     ensures { IfOk result (λ e. kind_of e ≡ ErrorKind.MissingRequiredArgument) }
 {
-    refuse(alloc, name, ErrorKind::MissingRequiredArgument, NO_RANGE)
+    refusal_of(alloc, name, ErrorKind::MissingRequiredArgument, NO_RANGE)
 }
 
 /// What is said where that is told twice.
-pub(crate) fn two_ranges(alloc: Global, name: &str) -> Result<Error, AllocError>
+pub(crate) fn two_ranges_error(alloc: Global, name: &str) -> Result<Error, AllocError>
     ensures { IfOk result (λ e. kind_of e ≡ ErrorKind.ArgumentConflict) }
 {
-    refuse(alloc, name, ErrorKind::ArgumentConflict, TWO_RANGES)
+    refusal_of(alloc, name, ErrorKind::ArgumentConflict, TWO_RANGES)
 }
 
 /// What is said of `--stop-after` and `--retry-failed` without a journal.
-pub(crate) fn no_journal(alloc: Global, name: &str) -> Result<Error, AllocError>
+pub(crate) fn missing_journal_error(alloc: Global, name: &str) -> Result<Error, AllocError>
     ensures { IfOk result (λ e. kind_of e ≡ ErrorKind.MissingRequiredArgument) }
 {
-    refuse(alloc, name, ErrorKind::MissingRequiredArgument, NO_JOURNAL)
+    refusal_of(alloc, name, ErrorKind::MissingRequiredArgument, NO_JOURNAL)
 }
 
 /// What is said of a folder of logs without a name.
-pub(crate) fn no_folder(alloc: Global, name: &str) -> Result<Error, AllocError>
+pub(crate) fn unnamed_folder_error(alloc: Global, name: &str) -> Result<Error, AllocError>
     ensures { IfOk result (λ e. kind_of e ≡ ErrorKind.InvalidValue) }
 {
-    refuse(alloc, name, ErrorKind::InvalidValue, NO_FOLDER)
+    refusal_of(alloc, name, ErrorKind::InvalidValue, NO_FOLDER)
 }
 
 /// What is said of a report that would take the place of another file.
-pub(crate) fn overwriting(alloc: Global, name: &str) -> Result<Error, AllocError>
+pub(crate) fn overwriting_error(alloc: Global, name: &str) -> Result<Error, AllocError>
     ensures { IfOk result (λ e. kind_of e ≡ ErrorKind.ArgumentConflict) }
 {
-    refuse(alloc, name, ErrorKind::ArgumentConflict, OVERWRITING)
+    refusal_of(alloc, name, ErrorKind::ArgumentConflict, OVERWRITING)
 }
 
 /// What is said where it isn't told what is cleared.
-pub(crate) fn nothing_cleared(alloc: Global) -> Result<Error, AllocError>
+pub(crate) fn nothing_cleared_error(alloc: Global) -> Result<Error, AllocError>
     ensures { IfOk result (λ e. kind_of e ≡ ErrorKind.MissingRequiredArgument) }
 {
-    refuse(
+    refusal_of(
         alloc,
         "clear",
         ErrorKind::MissingRequiredArgument,
@@ -97,31 +97,31 @@ pub(crate) fn nothing_cleared(alloc: Global) -> Result<Error, AllocError>
 }
 
 /// What is said where that is told in two ways.
-pub(crate) fn cleared_twice(alloc: Global) -> Result<Error, AllocError>
+pub(crate) fn cleared_twice_error(alloc: Global) -> Result<Error, AllocError>
     ensures { IfOk result (λ e. kind_of e ≡ ErrorKind.ArgumentConflict) }
 {
-    refuse(alloc, "clear", ErrorKind::ArgumentConflict, CLEARED_TWICE)
+    refusal_of(alloc, "clear", ErrorKind::ArgumentConflict, CLEARED_TWICE)
 }
 
 /// What is said of more tasks than runs, or fewer.
-pub(crate) fn unpaired(alloc: Global) -> Result<Error, AllocError>
+pub(crate) fn unpaired_tasks_error(alloc: Global) -> Result<Error, AllocError>
     ensures { IfOk result (λ e. kind_of e ≡ ErrorKind.MissingRequiredArgument) }
 {
-    refuse(alloc, "clear", ErrorKind::MissingRequiredArgument, UNPAIRED)
+    refusal_of(alloc, "clear", ErrorKind::MissingRequiredArgument, UNPAIRED)
 }
 
 /// What is said of more map indexes than tasks, or fewer.
-pub(crate) fn odd_indexes(alloc: Global) -> Result<Error, AllocError>
+pub(crate) fn unpaired_indexes_error(alloc: Global) -> Result<Error, AllocError>
     ensures { IfOk result (λ e. kind_of e ≡ ErrorKind.WrongNumberOfValues) }
 {
-    refuse(alloc, "clear", ErrorKind::WrongNumberOfValues, ODD_INDEXES)
+    refusal_of(alloc, "clear", ErrorKind::WrongNumberOfValues, ODD_INDEXES)
 }
 
 /// What is said of a map index without a task.
-pub(crate) fn no_task(alloc: Global) -> Result<Error, AllocError>
+pub(crate) fn missing_task_error(alloc: Global) -> Result<Error, AllocError>
     ensures { IfOk result (λ e. kind_of e ≡ ErrorKind.MissingRequiredArgument) }
 {
-    refuse(
+    refusal_of(
         alloc,
         "explain",
         ErrorKind::MissingRequiredArgument,
@@ -130,36 +130,36 @@ pub(crate) fn no_task(alloc: Global) -> Result<Error, AllocError>
 }
 
 /// What is said where it isn't told which report is shown.
-pub(crate) fn no_report(alloc: Global) -> Result<Error, AllocError>
+pub(crate) fn missing_report_error(alloc: Global) -> Result<Error, AllocError>
     ensures { IfOk result (λ e. kind_of e ≡ ErrorKind.MissingRequiredArgument) }
 {
-    refuse(alloc, "show", ErrorKind::MissingRequiredArgument, NO_REPORT)
+    refusal_of(alloc, "show", ErrorKind::MissingRequiredArgument, NO_REPORT)
 }
 
 /// What is said of `--json` beside what a grid has.
-pub(crate) fn json_with_more(alloc: Global) -> Result<Error, AllocError>
+pub(crate) fn json_with_grid_error(alloc: Global) -> Result<Error, AllocError>
     ensures { IfOk result (λ e. kind_of e ≡ ErrorKind.ArgumentConflict) }
 {
-    refuse(alloc, "show", ErrorKind::ArgumentConflict, JSON_WITH_MORE)
+    refusal_of(alloc, "show", ErrorKind::ArgumentConflict, JSON_WITH_MORE)
 }
 
 /// What is said of a word that doesn't tell when to colour.
-pub(crate) fn no_color_word(alloc: Global) -> Result<Error, AllocError>
+pub(crate) fn unknown_color_error(alloc: Global) -> Result<Error, AllocError>
     ensures { IfOk result (λ e. kind_of e ≡ ErrorKind.InvalidValue) }
 {
-    refuse(alloc, "show", ErrorKind::InvalidValue, NO_COLOR_WORD)
+    refusal_of(alloc, "show", ErrorKind::InvalidValue, NO_COLOR_WORD)
 }
 
 /// What is said of a word that is no format.
-pub(crate) fn no_format(alloc: Global) -> Result<Error, AllocError>
+pub(crate) fn unknown_format_error(alloc: Global) -> Result<Error, AllocError>
     ensures { IfOk result (λ e. kind_of e ≡ ErrorKind.InvalidValue) }
 {
-    refuse(alloc, "schema", ErrorKind::InvalidValue, NO_FORMAT)
+    refusal_of(alloc, "schema", ErrorKind::InvalidValue, NO_FORMAT)
 }
 
 /// What is said of a word that is no shell.
-pub(crate) fn no_shell(alloc: Global) -> Result<Error, AllocError>
+pub(crate) fn unknown_shell_error(alloc: Global) -> Result<Error, AllocError>
     ensures { IfOk result (λ e. kind_of e ≡ ErrorKind.InvalidValue) }
 {
-    refuse(alloc, "completions", ErrorKind::InvalidValue, NO_SHELL)
+    refusal_of(alloc, "completions", ErrorKind::InvalidValue, NO_SHELL)
 }

@@ -2,19 +2,19 @@
 ghost use Rattle.std.specs.Prelude.{◌≡◌, IfOk, Some, codes, false};
 ghost use Rattle.clap.specs.Words.{FailsBy, first_of, found_of, rows_of};
 ghost use Rattle.bf_command_line.specs.Wrongs.{color_words, show_wrongs, value_wrongs};
-ghost use Rattle.bf_command_line.specs.Asked.{is_given_in, has_grid_in, IsAskedBy};
+ghost use Rattle.bf_command_line.specs.Asked.{is_given_in, has_grid_options_in, IsAskedBy};
 
 use crate::choice::color_asked;
 use crate::forms::{Asked, ShowAsked};
 use crate::range::graph_asked;
-use crate::refusal::{json_with_more, no_report};
-use crate::value::{is_given, is_told, number_asked, optional, required};
+use crate::refusal::{json_with_grid_error, missing_report_error};
+use crate::value::{is_flag_set, is_given, optional_number, optional_text, required_text};
 use clap::{ArgMatches, Error};
 use std::alloc::Global;
 
 /// Whether something is told of a grid.
-fn has_grid(matches: &ArgMatches<'_>) -> bool
-    ensures { result ≡ has_grid_in (rows_of (found_of matches.now)) }
+fn has_grid_options(matches: &ArgMatches<'_>) -> bool
+    ensures { result ≡ has_grid_options_in (rows_of (found_of matches.now)) }
 {
     is_given(matches, "graph")
         || is_given(matches, "report")
@@ -23,7 +23,7 @@ fn has_grid(matches: &ArgMatches<'_>) -> bool
         || is_given(matches, "to")
         || is_given(matches, "width")
         || is_given(matches, "color")
-        || is_told(matches, "failed")
+        || is_flag_set(matches, "failed")
 }
 
 /// A grid of a report beside its graph.
@@ -36,11 +36,11 @@ fn grid_asked(alloc: Global, matches: &ArgMatches<'_>) -> Result<Asked, Error>
     let color = color_asked(alloc, matches)?;
     Ok(Asked::Show(ShowAsked {
         graph: graph_asked(alloc, matches)?,
-        report: required(alloc, matches, "report")?,
-        from: optional(alloc, matches, "from")?,
-        to: optional(alloc, matches, "to")?,
-        failed: is_told(matches, "failed"),
-        width: number_asked(matches, "width")?,
+        report: required_text(alloc, matches, "report")?,
+        from: optional_text(alloc, matches, "from")?,
+        to: optional_text(alloc, matches, "to")?,
+        failed: is_flag_set(matches, "failed"),
+        width: optional_number(matches, "width")?,
         color,
     }))
 }
@@ -51,13 +51,13 @@ pub(crate) fn show_asked(alloc: Global, matches: &ArgMatches<'_>) -> Result<Aske
     ensures err { FailsBy (show_wrongs (rows_of (found_of matches.now))) result }
 {
     if is_given(matches, "json") {
-        if has_grid(matches) {
-            return Err(json_with_more(alloc)?);
+        if has_grid_options(matches) {
+            return Err(json_with_grid_error(alloc)?);
         }
-        return Ok(Asked::ShowJson(required(alloc, matches, "json")?));
+        return Ok(Asked::ShowJson(required_text(alloc, matches, "json")?));
     }
     if !is_given(matches, "graph") || !is_given(matches, "report") {
-        return Err(no_report(alloc)?);
+        return Err(missing_report_error(alloc)?);
     }
     grid_asked(alloc, matches)
 }

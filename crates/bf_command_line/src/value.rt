@@ -1,13 +1,13 @@
 //! The values of a command's arguments.
 ghost use Rattle.std.specs.Prelude.{◌≡◌, IfOk, length, slice_get, option_map, string_bytes, Some};
 ghost use Rattle.clap.specs.Words.{first_of, found_of, rows_of};
-ghost use Rattle.bf_command_line.specs.Asked.{texts_in, is_given_in, IsIntegerIfGiven, IsNumberIfGiven, says_in, says_true};
+ghost use Rattle.bf_command_line.specs.Asked.{texts_in, is_given_in, IsIntegerIfGiven, IsNumberIfGiven, says_word_in, says_true};
 
 use clap::ArgMatches;
 use std::alloc::{AllocError, Global};
 
 /// How many values an argument has.
-pub(crate) fn count_of(matches: &ArgMatches<'_>, id: &str) -> usize
+pub(crate) fn value_count_of(matches: &ArgMatches<'_>, id: &str) -> usize
     ensures { result ≡ length (texts_in id.now (rows_of (found_of matches.now))) }
 {
     match matches.get_strs(id) {
@@ -27,7 +27,7 @@ pub(crate) fn text_at<'a>(matches: &ArgMatches<'a>, id: &str, place: usize) -> O
     }
 }
 
-pub(crate) fn required_at(
+pub(crate) fn required_text_at(
     alloc: Global,
     matches: &ArgMatches<'_>,
     id: &str,
@@ -43,7 +43,7 @@ pub(crate) fn required_at(
 }
 
 #[tactic(auto, using(crate::proofs::Rows::first_rows))]
-pub(crate) fn optional(
+pub(crate) fn optional_text(
     alloc: Global,
     matches: &ArgMatches<'_>,
     id: &str,
@@ -58,7 +58,7 @@ pub(crate) fn optional(
 }
 
 #[tactic(auto, using(crate::proofs::Rows::first_rows))]
-pub(crate) fn required(
+pub(crate) fn required_text(
     alloc: Global,
     matches: &ArgMatches<'_>,
     id: &str,
@@ -74,7 +74,7 @@ pub(crate) fn required(
 
 /// Whether a flag was given.
 #[tactic(auto, using(crate::proofs::Rows::first_rows))]
-pub(crate) fn is_told(matches: &ArgMatches<'_>, id: &str) -> bool
+pub(crate) fn is_flag_set(matches: &ArgMatches<'_>, id: &str) -> bool
     ensures { result ≡ says_true (first_of id.now (rows_of (found_of matches.now))) }
 {
     match matches.get_str(id) {
@@ -85,8 +85,8 @@ pub(crate) fn is_told(matches: &ArgMatches<'_>, id: &str) -> bool
 
 /// Whether an argument says this.
 #[tactic(auto, using(crate::proofs::Rows::first_rows))]
-pub(crate) fn says(matches: &ArgMatches<'_>, id: &str, words: &str) -> bool
-    ensures { result ≡ says_in (first_of id.now (rows_of (found_of matches.now))) words.now }
+pub(crate) fn says_word(matches: &ArgMatches<'_>, id: &str, words: &str) -> bool
+    ensures { result ≡ says_word_in (first_of id.now (rows_of (found_of matches.now))) words.now }
 {
     match matches.get_str(id) {
         Some(text) => text == words,
@@ -96,7 +96,7 @@ pub(crate) fn says(matches: &ArgMatches<'_>, id: &str, words: &str) -> bool
 
 /// The number that an option says, where it is given.
 #[tactic(auto, using(crate::proofs::Rows::first_rows))]
-pub(crate) fn number_asked(matches: &ArgMatches<'_>, id: &str) -> Result<Option<u32>, AllocError>
+pub(crate) fn optional_number(matches: &ArgMatches<'_>, id: &str) -> Result<Option<u32>, AllocError>
     ensures { IfOk result (IsNumberIfGiven (first_of id.now (rows_of (found_of matches.now)))) }
 {
     let Some(text) = matches.get_str(id) else {
@@ -110,7 +110,10 @@ pub(crate) fn number_asked(matches: &ArgMatches<'_>, id: &str) -> Result<Option<
 
 /// The same, of a number that may be negative.
 #[tactic(auto, using(crate::proofs::Rows::first_rows))]
-pub(crate) fn integer_asked(matches: &ArgMatches<'_>, id: &str) -> Result<Option<i32>, AllocError>
+pub(crate) fn optional_integer(
+    matches: &ArgMatches<'_>,
+    id: &str,
+) -> Result<Option<i32>, AllocError>
     ensures { IfOk result (IsIntegerIfGiven (first_of id.now (rows_of (found_of matches.now)))) }
 {
     let Some(text) = matches.get_str(id) else {

@@ -6,8 +6,8 @@ ghost use Rattle.bf_command_line.specs.Asked.{IsAskedBy, IsTaskBy};
 
 use crate::forms::{Asked, ExplainAsked, PageAsked, TaskAsked};
 use crate::range::graph_asked;
-use crate::refusal::no_task;
-use crate::value::{integer_asked, is_told, optional, required};
+use crate::refusal::missing_task_error;
+use crate::value::{is_flag_set, optional_integer, optional_text, required_text};
 use clap::{ArgMatches, Error};
 use std::alloc::{AllocError, Global};
 
@@ -16,9 +16,9 @@ pub(crate) fn page_asked(alloc: Global, matches: &ArgMatches<'_>) -> Result<Aske
 {
     Ok(Asked::Page(PageAsked {
         graph: graph_asked(alloc, matches)?,
-        report: required(alloc, matches, "report")?,
-        states_only: is_told(matches, "states_only"),
-        journal: optional(alloc, matches, "journal")?,
+        report: required_text(alloc, matches, "report")?,
+        states_only: is_flag_set(matches, "states_only"),
+        journal: optional_text(alloc, matches, "journal")?,
     }))
 }
 
@@ -27,10 +27,10 @@ fn task_asked(alloc: Global, matches: &ArgMatches<'_>) -> Result<Option<TaskAske
     ensures ok { IfOk result (IsTaskBy (rows_of (found_of matches.now))) }
     ensures err { FailsBy (explain_wrongs (rows_of (found_of matches.now))) result }
 {
-    let index = integer_asked(matches, "index")?;
-    match optional(alloc, matches, "task")? {
+    let index = optional_integer(matches, "index")?;
+    match optional_text(alloc, matches, "task")? {
         Some(id) => Ok(Some(TaskAsked { id, index })),
-        None if index.is_some() => Err(no_task(alloc)?),
+        None if index.is_some() => Err(missing_task_error(alloc)?),
         None => Ok(None),
     }
 }
@@ -42,8 +42,8 @@ pub(crate) fn explain_asked(alloc: Global, matches: &ArgMatches<'_>) -> Result<A
     let task = task_asked(alloc, matches)?;
     Ok(Asked::Explain(ExplainAsked {
         graph: graph_asked(alloc, matches)?,
-        report: required(alloc, matches, "report")?,
-        run: required(alloc, matches, "run")?,
+        report: required_text(alloc, matches, "report")?,
+        run: required_text(alloc, matches, "run")?,
         task,
     }))
 }
@@ -51,5 +51,5 @@ pub(crate) fn explain_asked(alloc: Global, matches: &ArgMatches<'_>) -> Result<A
 pub(crate) fn answers_asked(alloc: Global, matches: &ArgMatches<'_>) -> Result<Asked, AllocError>
     ensures { IfOk result (IsAskedBy (Some (codes "answers", rows_of (found_of matches.now)))) }
 {
-    Ok(Asked::Answers(required(alloc, matches, "report")?))
+    Ok(Asked::Answers(required_text(alloc, matches, "report")?))
 }

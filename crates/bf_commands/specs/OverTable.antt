@@ -29,8 +29,8 @@ TableReport dag table intervals text success =
     IsReportBy (AnswersByTable dag table intervals) dag intervals text success
 
 -- where a table answers and no progress is told, the calling thread makes all tries, however many workers may run
-abbrev pub is_alone_in : Bool → Bool
-is_alone_in progress = not progress
+abbrev pub is_single_threaded_in : Bool → Bool
+is_single_threaded_in progress = not progress
 
 -- memory or the device is wanting, or where workers are started, the thread of one
 abbrev pub IsWantingWorkers : Bool → CommandFault → Type 0

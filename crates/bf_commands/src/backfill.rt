@@ -6,13 +6,13 @@ ghost use Rattle.bf_table.specs.Tables.{answer_of};
 ghost use Rattle.bf_device.specs.Device.{HasHalted};
 ghost use Rattle.bf_command_fault.specs.Refusal.{Leaves, Sends};
 ghost use Rattle.bf_commands.specs.Cleared.{IsStopOrWantingAnew, IsStopOrWantingFrom, MayAnswerBy};
-ghost use Rattle.bf_commands.specs.OverTable.{AnswersByTable, IsUnsent, IsWantingWorkers, answering, is_alone_in};
+ghost use Rattle.bf_commands.specs.OverTable.{AnswersByTable, IsUnsent, IsWantingWorkers, answering, is_single_threaded_in};
 ghost use Rattle.bf_commands.specs.Reported.{IsEndFrom, IsReportFrom};
 
 use crate::crew::Crew;
 use crate::programs::{programs_of, tell_of_logs};
 use crate::reported::write_ended;
-use crate::stop::{stopped_alone, stopped_by_programs, stopped_over_table};
+use crate::stop::{stop_fault_alone, stop_fault_by_programs, stop_fault_over_table};
 use bf_command_fault::CommandFault;
 use bf_core::Ended;
 use bf_device::Write;
@@ -56,7 +56,7 @@ pub(crate) fn runner_over<'p>(
 }
 
 /// The end of a backfill in which a table answers what isn't kept, and the calling thread makes the tries.
-fn ended_alone<'p, K: KeptTries>(
+fn resume_alone<'p, K: KeptTries>(
     plan: &'p Plan,
     runs: &Runs,
     keeping: &Keeping<'_, K, TableRunner<'_>>,
@@ -69,12 +69,12 @@ fn ended_alone<'p, K: KeptTries>(
 {
     match resume_one_by_one(keeping.alloc, plan, runs, keeping) {
         Ok(ended) => Ok(ended),
-        Err(fault) => Err(stopped_alone(&fault)),
+        Err(fault) => Err(stop_fault_alone(&fault)),
     }
 }
 
 /// The end of a backfill in which a table answers what isn't kept. A delay takes no time.
-fn ended_over_table<'p, RT: Screen + Threads + Wait + Clock + Sync, K: KeptTries + Sync>(
+fn resume_over_table<'p, RT: Screen + Threads + Wait + Clock + Sync, K: KeptTries + Sync>(
     crew: &Crew<'_, RT>,
     plan: &'p Plan,
     runs: &Runs,
@@ -85,7 +85,7 @@ fn ended_over_table<'p, RT: Screen + Threads + Wait + Clock + Sync, K: KeptTries
     ensures end { IfOk result (IsEndFrom (K.kept kept.now)
         (AnswersByTable plan.entry.now.dag table runs.now)
         plan.entry.now.dag plan.entry.now.limits (length runs.now) crew.now.workers) }
-    ensures wanting { IfErr result (IsWantingWorkers (is_alone_in crew.now.progress)) }
+    ensures wanting { IfErr result (IsWantingWorkers (is_single_threaded_in crew.now.progress)) }
     ensures unsent { IfErr result IsUnsent }
 {
     let runner = runner_over(crew.alloc, plan, table, runs)?;
@@ -94,23 +94,22 @@ fn ended_over_table<'p, RT: Screen + Threads + Wait + Clock + Sync, K: KeptTries
         kept,
         runner: &runner,
     };
-    if crew.is_alone() {
+    if crew.is_single_threaded() {
         let _some = crew.workers.count();
-        return ended_alone(plan, runs, &keeping);
+        return resume_alone(plan, runs, &keeping);
     }
-    match crew.resumed(plan, runs, &keeping, Jump::new()) {
+    match crew.resume_by_workers(plan, runs, &keeping, Jump::new()) {
         Ok(ended) => Ok(ended),
-        Err(fault) => Err(stopped_over_table(&fault)),
+        Err(fault) => Err(stop_fault_over_table(&fault)),
     }
 }
 
 /// The end of a backfill in which programs answer what isn't kept.
-fn ended_by_programs<'p, RT: Starter + Screen + Threads + Wait + Clock + Sync, K: KeptTries + Sync>(
-    crew: &Crew<'_, RT>,
-    plan: &'p Plan,
-    runs: &Runs,
-    kept: &K,
-) -> Result<Ended<'p>, CommandFault>
+fn resume_by_programs<
+    'p,
+    RT: Starter + Screen + Threads + Wait + Clock + Sync,
+    K: KeptTries + Sync,
+>(crew: &Crew<'_, RT>, plan: &'p Plan, runs: &Runs, kept: &K) -> Result<Ended<'p>, CommandFault>
     requires { AreFit plan.now.dag (K.kept kept.now) }
     ensures end { IfOk result (IsEndFrom (K.kept kept.now)
         (MayAnswer (through (launching_of crew.now.launching) (RT.may_hear crew.now.rt.now))
@@ -127,20 +126,20 @@ fn ended_by_programs<'p, RT: Starter + Screen + Threads + Wait + Clock + Sync, K
         kept,
         runner: &programs,
     };
-    let ended = crew.resumed(plan, runs, &keeping, MachineClock::new(crew.rt));
+    let ended = crew.resume_by_workers(plan, runs, &keeping, MachineClock::new(crew.rt));
     let log_faults = programs.runner().log_faults();
     tell_of_logs(crew.rt, log_faults);
     match ended {
         Ok(ended) => Ok(ended),
         Err(fault) => {
-            let stopping = crew.stopping(plan, runs, Some(log_faults));
-            Err(stopped_by_programs(&stopping, &fault))
+            let stopping = crew.stopped_backfill(plan, runs, Some(log_faults));
+            Err(stop_fault_by_programs(&stopping, &fault))
         }
     }
 }
 
 /// The end of a backfill in which a table answers what isn't kept, where there is one, and else the programs of the tasks.
-fn ended<'p, RT: Starter + Screen + Threads + Wait + Clock + Sync, K: KeptTries + Sync>(
+fn resume_backfill<'p, RT: Starter + Screen + Threads + Wait + Clock + Sync, K: KeptTries + Sync>(
     crew: &Crew<'_, RT>,
     plan: &'p Plan,
     runs: &Runs,
@@ -152,15 +151,15 @@ fn ended<'p, RT: Starter + Screen + Threads + Wait + Clock + Sync, K: KeptTries 
         (MayAnswerBy (through (launching_of crew.now.launching) (RT.may_hear crew.now.rt.now))
         answers plan.entry.now.dag runs.now)
         plan.entry.now.dag plan.entry.now.limits (length runs.now) crew.now.workers) }
-    ensures stop { IfErr result (IsStopOrWantingFrom (is_alone_in crew.now.progress)
+    ensures stop { IfErr result (IsStopOrWantingFrom (is_single_threaded_in crew.now.progress)
         (K.kept kept.now)
         (launching_of crew.now.launching) (RT.may_lose crew.now.rt.now) answers plan.entry.now.dag
         runs.now) }
     ensures unsent { IfErr result IsUnsent }
 {
     match answers {
-        Some(table) => ended_over_table(crew, plan, runs, kept, table),
-        None => ended_by_programs(crew, plan, runs, kept),
+        Some(table) => resume_over_table(crew, plan, runs, kept, table),
+        None => resume_by_programs(crew, plan, runs, kept),
     }
 }
 
@@ -183,7 +182,7 @@ pub(crate) fn write_backfill<
         (MayAnswerBy (through (launching_of crew.now.launching) (RT.may_hear crew.now.rt.now))
         answers plan.now.dag runs.now)
         plan.now.dag runs.now text success) (W.written out.old) (W.written out.new)) }
-    ensures stop { IfErr result (IsStopOrWantingFrom (is_alone_in crew.now.progress)
+    ensures stop { IfErr result (IsStopOrWantingFrom (is_single_threaded_in crew.now.progress)
         (K.kept kept.now)
         (launching_of crew.now.launching) (RT.may_lose crew.now.rt.now) answers plan.now.dag
         runs.now) }
@@ -194,7 +193,7 @@ pub(crate) fn write_backfill<
         answers plan.now.dag runs.now)
         plan.now.dag runs.now text success) (W.written out.old) (W.written out.new)) }
 {
-    let ended = ended(crew, plan, runs, kept, answers)?;
+    let ended = resume_backfill(crew, plan, runs, kept, answers)?;
     let _end = ended.state();
     write_ended(crew.alloc, runs, &ended, out)
 }

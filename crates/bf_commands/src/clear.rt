@@ -9,14 +9,14 @@ ghost use Rattle.bf_commands.specs.Cleared.{AreAnswersIn, ClearingFault, IsFault
 ghost use Rattle.bf_journal.specs.Heads.{head_text};
 ghost use Rattle.bf_journal.specs.Left.{KeepsJournal};
 ghost use Rattle.bf_commands.specs.Journaled.{IsClearedBy, JournalReportFault, IsJournalReport};
-ghost use Rattle.bf_commands.specs.OverTable.{is_alone_in};
+ghost use Rattle.bf_commands.specs.OverTable.{is_single_threaded_in};
 ghost use Rattle.bf_planning.specs.Clocks.{clocks_in};
 ghost use Rattle.bf_commands.specs.Programs.{launched_in, with_clocks};
 
 use crate::backfill::write_backfill;
 use crate::cleared::{ToClear, kept_of, places_to_clear};
 use crate::crew::Crew;
-use crate::heading::headings_of;
+use crate::heading::cleared_tasks_of;
 use crate::journal::Journal;
 use crate::journaled::{Backfill, Recorded, record_backfill};
 use bf_clear::Cleared;
@@ -56,7 +56,7 @@ pub struct Prepared {
 }
 
 /// Looks at the graph, then at the table, and then at the range.
-pub fn prepare(
+pub fn prepare_backfill(
     alloc: Global,
     graph: &[u8],
     zone_file: Option<&[u8]>,
@@ -72,7 +72,7 @@ pub fn prepare(
 {
     let timed = timed_plan_in(alloc, graph, zone_file)?;
     let answers = answers_in(alloc, table)?;
-    let dated = timed.dated(alloc, range)?;
+    let dated = timed.into_dated(alloc, range)?;
     Ok(Prepared { dated, answers })
 }
 
@@ -86,7 +86,7 @@ pub struct Clearing<'a> {
 }
 
 /// Clears this in a report, with all that follows from it.
-pub fn clear_in<'a>(
+pub fn clear_in_report<'a>(
     alloc: Global,
     dated: &'a DatedPlan,
     report: Report,
@@ -101,7 +101,7 @@ pub fn clear_in<'a>(
 {
     let places = places_to_clear(alloc, dated, &report, &what)?;
     let kept = kept_of(alloc, dated, report, &what, places.as_slice())?;
-    let cleared = headings_of(alloc, &dated.plan, &dated.runs, places.as_slice())?;
+    let cleared = cleared_tasks_of(alloc, &dated.plan, &dated.runs, places.as_slice())?;
     Ok(Clearing {
         dated,
         kept,
@@ -111,7 +111,7 @@ pub fn clear_in<'a>(
 
 /// Writes the report of a backfill that goes on from a report where this is cleared, with all that follows from it, or nothing is.
 /// Says whether every run is a success.
-pub fn run_again<RT: Starter + Screen + Threads + Wait + Clock + Sync, W: Write>(
+pub fn write_resumed_report<RT: Starter + Screen + Threads + Wait + Clock + Sync, W: Write>(
     crew: &Crew<'_, RT>,
     prepared: Prepared,
     report: Report,
@@ -123,7 +123,7 @@ pub fn run_again<RT: Starter + Screen + Threads + Wait + Clock + Sync, W: Write>
         (RT.may_hear crew.now.rt.now))
         prepared.answers prepared.dated.plan.dag prepared.dated.runs report what text success)
         (W.written out.old) (W.written out.new)) }
-    ensures fault { IfErr result (ClearingFault (is_alone_in crew.now.progress)
+    ensures fault { IfErr result (ClearingFault (is_single_threaded_in crew.now.progress)
         (with_clocks (launching_of crew.now.launching) (clocks_in prepared.dated))
         (RT.may_lose crew.now.rt.now)
         prepared.answers prepared.dated.plan.dag prepared.dated.runs report what) }
@@ -135,8 +135,8 @@ pub fn run_again<RT: Starter + Screen + Threads + Wait + Clock + Sync, W: Write>
         (W.written out.old) (W.written out.new)) }
 {
     let Prepared { dated, answers } = prepared;
-    let clearing = clear_in(crew.alloc, &dated, report, what)?;
-    let crew = crew.at(&dated.clocks);
+    let clearing = clear_in_report(crew.alloc, &dated, report, what)?;
+    let crew = crew.with_clocks(&dated.clocks);
     write_backfill(
         &crew,
         &dated.plan,
@@ -149,7 +149,7 @@ pub fn run_again<RT: Starter + Screen + Threads + Wait + Clock + Sync, W: Write>
 
 /// Goes on from a journal, and else from what is kept of a report, records each other try there as it ends, and writes the report.
 /// Says whether every run is a success.
-pub fn record_again<RT, D, W>(
+pub fn record_resumed_report<RT, D, W>(
     crew: &Crew<'_, RT>,
     clearing: &Clearing<'_>,
     answers: Option<Table>,
@@ -198,6 +198,6 @@ where
         before: &clearing.kept,
         cleared: clearing.cleared.as_slice(),
     };
-    let crew = crew.at(&clearing.dated.clocks);
+    let crew = crew.with_clocks(&clearing.dated.clocks);
     record_backfill(&crew, &backfill, answers, journal, out)
 }

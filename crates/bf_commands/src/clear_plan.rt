@@ -7,7 +7,7 @@ ghost use Rattle.bf_commands.specs.Cleared.{IsUncleared};
 ghost use Rattle.bf_commands.specs.Planned.{begins_run_in, begins_task_in, cleared_line, place_before_in, runs_in, sum_line, tasks_in, IsClearPlan, ClearPlanFault};
 
 use crate::cleared::{ToClear, kept_of, places_to_clear};
-use crate::heading::headings_of;
+use crate::heading::cleared_tasks_of;
 use bf_command_fault::CommandFault;
 use bf_dependents::{Place, dependents};
 use bf_device::{Write, send};
@@ -95,7 +95,7 @@ fn push_sum(text: &mut String, places: &[Place]) -> Result<(), OutOfMemory>
 }
 
 /// The lines and the sum of what is cleared.
-fn plan_text(
+fn clear_plan_text(
     alloc: Global,
     dated: &DatedPlan,
     report: Report,
@@ -109,7 +109,7 @@ fn plan_text(
     let kept = kept_of(alloc, dated, report, what, seeds.as_slice())?;
     let runs = dated.runs.intervals().len() as u32;
     let places = kept.followers().places(alloc, &dated.plan, runs)?;
-    let cleared = headings_of(alloc, &dated.plan, &dated.runs, places.as_slice())?;
+    let cleared = cleared_tasks_of(alloc, &dated.plan, &dated.runs, places.as_slice())?;
     let mut text = lines_of(alloc, cleared.as_slice())?;
     push_sum(&mut text, places.as_slice())?;
     Ok(text)
@@ -133,7 +133,7 @@ pub fn write_clear_plan<W: Write>(
         (IsClearPlan dated.now.plan.dag dated.now.runs report what.now)
         (W.written out.old) (W.written out.new)) }
 {
-    let text = plan_text(alloc, dated, report, what)?;
+    let text = clear_plan_text(alloc, dated, report, what)?;
     send(out, text.as_bytes())?;
     Ok(())
 }

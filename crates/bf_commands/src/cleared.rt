@@ -7,7 +7,7 @@ ghost use Rattle.bf_clear.specs.Keeping.{kept_in};
 ghost use Rattle.bf_clear.specs.Matching.{refusal};
 ghost use Rattle.bf_commands.specs.Cleared.{report_fault, AreCleared, AreKeptFor, IsUnknown, IsUnknownNamed};
 
-use bf_clear::{Cleared, clear_places, failed_places, keep_places};
+use bf_clear::{Cleared, clear_places, clear_places_by_ids, failed_places};
 use bf_command_fault::CommandFault;
 use bf_dependents::{ClearFault, Place, Seed, places_of, refuse_seeds};
 use bf_planning::DatedPlan;
@@ -86,7 +86,7 @@ pub(crate) fn kept_of<'a>(
         dated.entry.now.runs report ≡ refusal fault) }
 {
     match what {
-        ToClear::Nothing => keep_places(alloc, &dated.plan, &dated.runs, report, places),
+        ToClear::Nothing => clear_places_by_ids(alloc, &dated.plan, &dated.runs, report, places),
         _ => clear_places(alloc, &dated.plan, &dated.runs, report, places),
     }
 }

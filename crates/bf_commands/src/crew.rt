@@ -2,11 +2,11 @@
 ghost use Rattle.std.specs.Prelude.{◌≡◌, IfOk, IfErr, length};
 ghost use Rattle.bf_exec.specs.Faults.{MayFail};
 ghost use Rattle.bf_kept.specs.Kept.{AreFit, MayGiveUpAnew};
-ghost use Rattle.bf_commands.specs.OverTable.{is_alone_in};
+ghost use Rattle.bf_commands.specs.OverTable.{is_single_threaded_in};
 ghost use Rattle.bf_commands.specs.Reported.{IsEndFrom};
 
 use crate::progress::Noting;
-use crate::stop::Stopping;
+use crate::stop::StoppedBackfill;
 use bf_core::{BackfillFault, Ended};
 use bf_exec::{Observer, Silent, Watch, resume};
 use bf_interval::Runs;
@@ -45,7 +45,7 @@ pub struct Crew<'m, RT> {
 
 impl<'m, RT> Crew<'m, RT> {
     /// The crew that is asked for, which tells nothing beside, and launches each program by itself and without logs.
-    pub fn of(rt: &'m RT, alloc: Global, workers: Workers, progress: bool) -> Crew<'m, RT>
+    pub fn new(rt: &'m RT, alloc: Global, workers: Workers, progress: bool) -> Crew<'m, RT>
         ensures machine { result.rt ≡ rt.entry }
         ensures workers { result.workers ≡ workers }
         ensures progress { result.progress ≡ progress }
@@ -68,7 +68,7 @@ impl<'m, RT> Crew<'m, RT> {
     }
 
     /// The same crew, which launches programs so, and tells this beside.
-    pub fn launching(self, launching: Launching<'m>, tells: Tells) -> Crew<'m, RT>
+    pub fn with_launching(self, launching: Launching<'m>, tells: Tells) -> Crew<'m, RT>
         ensures machine { result.rt ≡ self.entry.rt }
         ensures workers { result.workers ≡ self.entry.workers }
         ensures progress { result.progress ≡ self.entry.progress }
@@ -85,7 +85,7 @@ impl<'m, RT> Crew<'m, RT> {
     }
 
     /// The same crew, for runs at whose moments clocks show this.
-    pub(crate) fn at<'c>(&self, clocks: &'c [Moment]) -> Crew<'c, RT>
+    pub(crate) fn with_clocks<'c>(&self, clocks: &'c [Moment]) -> Crew<'c, RT>
     where
         'm: 'c,
         ensures machine { result.rt ≡ self.now.rt }
@@ -108,25 +108,25 @@ impl<'m, RT> Crew<'m, RT> {
     }
 
     /// This crew's backfill of these runs of a plan, which stopped, and of whose logs this is known where programs were started.
-    pub(crate) fn stopping<'a>(
+    pub(crate) fn stopped_backfill<'a>(
         &self,
         plan: &'a Plan,
         runs: &'a Runs,
         log_faults: Option<&LogFaults>,
-    ) -> Stopping<'a>
+    ) -> StoppedBackfill<'a>
     where
         'm: 'a,
         ensures plan { result.plan ≡ plan.entry }
         ensures runs { result.runs ≡ runs.entry }
         ensures logs { result.logs ≡ self.now.launching.logs }
     {
-        Stopping {
+        StoppedBackfill {
             alloc: self.alloc,
             plan,
             runs,
             logs: self.launching.logs,
             cannot_log: match log_faults {
-                Some(faults) => faults.cannot_make(),
+                Some(faults) => faults.has_unmade_log(),
                 None => false,
             },
         }
@@ -134,8 +134,8 @@ impl<'m, RT> Crew<'m, RT> {
 
     /// Whether the calling thread makes the tries that a table answers. To hand one to a worker takes longer than to answer it, so workers are started
     /// only where progress is told beside them.
-    pub(crate) fn is_alone(&self) -> bool
-        ensures { result ≡ is_alone_in self.now.progress }
+    pub(crate) fn is_single_threaded(&self) -> bool
+        ensures { result ≡ is_single_threaded_in self.now.progress }
     {
         !self.progress
     }
@@ -143,7 +143,7 @@ impl<'m, RT> Crew<'m, RT> {
 
 impl<'m, RT: Screen + Threads + Wait + Clock + Sync> Crew<'m, RT> {
     /// The end of a backfill by the workers, which goes on from tries that are kept, and whose events this observer is shown.
-    fn observed<'p, K, R, C, O>(
+    fn resume_observed<'p, K, R, C, O>(
         &self,
         plan: &'p Plan,
         runs: &Runs,
@@ -176,7 +176,7 @@ impl<'m, RT: Screen + Threads + Wait + Clock + Sync> Crew<'m, RT> {
     }
 
     /// The same, beside a thread that tells its progress. Where that can't be started, only the last line is told.
-    fn told<'s, 'p, E, K, R, C>(
+    fn resume_with_progress<'s, 'p, E, K, R, C>(
         &self,
         scope: &Scope<'s, E>,
         progress: &'s Progress<'_, RT>,
@@ -196,9 +196,9 @@ impl<'m, RT: Screen + Threads + Wait + Clock + Sync> Crew<'m, RT> {
         ensures err { IfErr result (MayFail
             (MayGiveUpAnew (K.kept keeping.now.kept.now) (R.may_give_up keeping.now.runner.now))) }
     {
-        let teller = scope.spawn(move || progress.keep_up());
-        let ended = self.observed(plan, runs, keeping, clock, Noting { progress });
-        progress.end();
+        let teller = scope.spawn(move || progress.tell_until_ended());
+        let ended = self.resume_observed(plan, runs, keeping, clock, Noting { progress });
+        progress.stop_telling();
         if let Ok(teller) = teller {
             teller.join(self.rt);
         }
@@ -208,7 +208,12 @@ impl<'m, RT: Screen + Threads + Wait + Clock + Sync> Crew<'m, RT> {
 
     /// The end of a backfill by the workers, which goes on from tries that are kept. Its progress is told where that is asked
     /// for, and where it is told without being asked.
-    pub(crate) fn resumed<'p, K: KeptTries + Sync, R: TaskRunner + Sync, C: TimeSource + Drop>(
+    pub(crate) fn resume_by_workers<
+        'p,
+        K: KeptTries + Sync,
+        R: TaskRunner + Sync,
+        C: TimeSource + Drop,
+    >(
         &self,
         plan: &'p Plan,
         runs: &Runs,
@@ -223,9 +228,9 @@ impl<'m, RT: Screen + Threads + Wait + Clock + Sync> Crew<'m, RT> {
             (MayGiveUpAnew (K.kept keeping.now.kept.now) (R.may_give_up keeping.now.runner.now))) }
     {
         if !self.progress && !self.tells.progress {
-            return self.observed(plan, runs, keeping, clock, Silent);
+            return self.resume_observed(plan, runs, keeping, clock, Silent);
         }
-        let progress = Progress::of(self.rt, self.alloc, plan, runs);
+        let progress = Progress::new(self.rt, self.alloc, plan, runs);
         let lent = &progress;
         thread::scope(
             thread::scope_env(),
@@ -239,7 +244,7 @@ impl<'m, RT: Screen + Threads + Wait + Clock + Sync> Crew<'m, RT> {
                 ensures err { IfErr result (MayFail
                     (MayGiveUpAnew (K.kept keeping.entry.now.kept.now)
                     (R.may_give_up keeping.entry.now.runner.now))) }
-            { self.told(scope, lent, plan, runs, keeping, clock) },
+            { self.resume_with_progress(scope, lent, plan, runs, keeping, clock) },
         )
     }
 }

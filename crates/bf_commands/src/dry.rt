@@ -3,7 +3,7 @@ ghost use Rattle.std.specs.Prelude.{Bool, IfOk, IfErr, option_map};
 ghost use Rattle.bf_device.specs.Device.{HasHalted};
 ghost use Rattle.bf_command_fault.specs.Refusal.{Leaves, Sends};
 ghost use Rattle.bf_commands.specs.DatedRuns.{DryFault, IsDryReport};
-ghost use Rattle.bf_commands.specs.OverTable.{is_alone_in};
+ghost use Rattle.bf_commands.specs.OverTable.{is_single_threaded_in};
 
 use crate::backfill::write_backfill;
 use crate::crew::Crew;
@@ -31,7 +31,7 @@ pub fn run_dry<RT: Starter + Screen + Threads + Wait + Clock + Sync, W: Write>(
     ensures ok { IfOk result (λ success. Sends (λ text.
         IsDryReport graph.now (option_map (λ s. s.now) zone_file.entry) table.now range text success)
         (W.written out.old) (W.written out.new)) }
-    ensures fault { IfErr result (DryFault (is_alone_in crew.now.progress) graph.now
+    ensures fault { IfErr result (DryFault (is_single_threaded_in crew.now.progress) graph.now
         (option_map (λ s. s.now) zone_file.entry) table.now range) }
     ensures left { IfErr result (Leaves (HasHalted (W.failures out.old) (W.failures out.new)
         (W.interruptions out.old) (W.interruptions out.new))

@@ -12,7 +12,7 @@ use bf_value::{OutOfMemory, Text};
 use std::alloc::Global;
 
 /// The task of a place, the start of its run, and its index.
-fn heading_of(
+fn cleared_task_of(
     alloc: Global,
     dag: &Dag,
     interval: &Interval,
@@ -21,7 +21,7 @@ fn heading_of(
     requires { IsShownInterval interval.now }
     ensures { IfOk result (IsToldOf dag.now interval.now place) }
 {
-    let task = Text::copied(alloc, id_of(dag, place.task))?;
+    let task = Text::copy_of(alloc, id_of(dag, place.task))?;
     Ok(ClearedTask {
         task,
         run: Moment::new(interval.start),
@@ -30,7 +30,7 @@ fn heading_of(
 }
 
 /// Adds what is told of a place, where its run is there.
-fn add_heading(
+fn add_cleared_task(
     alloc: Global,
     dag: &Dag,
     runs: &Runs,
@@ -43,13 +43,13 @@ fn add_heading(
     let Some(interval) = runs.intervals().get(place.run as usize) else {
         return Ok(());
     };
-    let told = heading_of(alloc, dag, interval, place)?;
+    let told = cleared_task_of(alloc, dag, interval, place)?;
     cleared.push(told)?;
     Ok(())
 }
 
 /// What is told of these places, in order.
-pub(crate) fn headings_of(
+pub(crate) fn cleared_tasks_of(
     alloc: Global,
     plan: &Plan,
     runs: &Runs,
@@ -60,7 +60,7 @@ pub(crate) fn headings_of(
     let dag = plan.dag();
     let mut cleared = Vec::new(alloc);
     for place in places {
-        add_heading(alloc, dag, runs, *place, &mut cleared)?;
+        add_cleared_task(alloc, dag, runs, *place, &mut cleared)?;
     }
     Ok(cleared)
 }

@@ -6,10 +6,10 @@ ghost use Rattle.bf_journal.specs.Heads.{head_text};
 ghost use Rattle.bf_journal.specs.Left.{IsLeftPart, IsMadeWhole};
 ghost use Rattle.bf_commands.specs.Journaled.{HasTries, IsFaultOfJournal};
 
-use crate::telling::tell_of;
+use crate::telling::tell_found;
 use bf_command_fault::{CommandFault, StopFault};
 use bf_interval::Runs;
-use bf_journal::{ClearedTask, Cuttable, head_of, is_made_whole, read_journal};
+use bf_journal::{ClearedTask, Cuttable, head_of, read_journal, try_make_whole};
 use bf_plan::Plan;
 use bf_progress::Screen;
 use bf_try::Ledger;
@@ -29,7 +29,7 @@ pub struct Journal<D: Cuttable + Drop> {
 }
 
 /// The tries that are kept of a journal. What was cut short stands there no more, and the head does.
-pub(crate) fn tries_of<RT: Screen, D: Cuttable + Drop>(
+pub(crate) fn read_and_mend_journal<RT: Screen, D: Cuttable + Drop>(
     rt: &RT,
     alloc: Global,
     plan: &Plan,
@@ -53,9 +53,9 @@ pub(crate) fn tries_of<RT: Screen, D: Cuttable + Drop>(
 {
     let head = head_of(alloc, plan, runs, cleared)?;
     let found = read_journal(alloc, plan, runs, head.as_bytes(), &journal.held)?;
-    if !is_made_whole(&mut journal.device, head.as_bytes(), &found) {
+    if !try_make_whole(&mut journal.device, head.as_bytes(), &found) {
         return Err(CommandFault::Stopped(StopFault::CannotRecord));
     }
-    tell_of(rt, alloc, &journal.held, &found);
+    tell_found(rt, alloc, &journal.held, &found);
     Ok(found.tries)
 }

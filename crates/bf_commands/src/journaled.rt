@@ -17,11 +17,11 @@ ghost use Rattle.bf_commands.specs.Reported.{IsEndFrom, IsReportFrom, IsReportOf
 
 use crate::backfill::runner_over;
 use crate::crew::Crew;
-use crate::journal::{Journal, tries_of};
+use crate::journal::{Journal, read_and_mend_journal};
 use crate::programs::{programs_of, tell_of_logs};
 use crate::recorded::{Record, RecordedEnd};
 use crate::reported::write_ended;
-use crate::telling::tell_of_lost;
+use crate::telling::tell_unrecorded;
 use bf_command_fault::CommandFault;
 use bf_core::Ended;
 use bf_device::Write;
@@ -55,7 +55,7 @@ pub(crate) struct Backfill<'a, K> {
 }
 
 /// The end of a backfill in which a table answers what isn't kept.
-fn recorded_over_table<'p, RT, K, D>(
+fn record_over_table<'p, RT, K, D>(
     crew: &Crew<'_, RT>,
     plan: &'p Plan,
     runs: &Runs,
@@ -93,11 +93,11 @@ where
         kept,
         runner: &runner,
     };
-    crew.resumed_recorded(plan, runs, &keeping, record, Jump::new(), None)
+    crew.resume_recorded(plan, runs, &keeping, record, Jump::new(), None)
 }
 
 /// The end of a backfill in which programs answer what isn't kept.
-fn recorded_by_programs<'p, RT, K, D>(
+fn record_by_programs<'p, RT, K, D>(
     crew: &Crew<'_, RT>,
     plan: &'p Plan,
     runs: &Runs,
@@ -129,13 +129,13 @@ where
     };
     let log_faults = programs.runner().log_faults();
     let clock = MachineClock::new(crew.rt);
-    let ended = crew.resumed_recorded(plan, runs, &keeping, record, clock, Some(log_faults));
+    let ended = crew.resume_recorded(plan, runs, &keeping, record, clock, Some(log_faults));
     tell_of_logs(crew.rt, log_faults);
     ended
 }
 
 /// The end of a backfill in which a table answers what isn't kept, where there is one, and else the programs of the tasks.
-fn ended_recorded<'p, RT, K, D>(
+fn record_to_end<'p, RT, K, D>(
     crew: &Crew<'_, RT>,
     plan: &'p Plan,
     runs: &Runs,
@@ -161,13 +161,13 @@ where
         (D.written record.device) (D.written result.device) (is_write_failed result.stop) }
 {
     match answers {
-        Some(table) => recorded_over_table(crew, plan, runs, kept, table, record),
-        None => recorded_by_programs(crew, plan, runs, kept, record),
+        Some(table) => record_over_table(crew, plan, runs, kept, table, record),
+        None => record_by_programs(crew, plan, runs, kept, record),
     }
 }
 
 /// Writes the report of a backfill that has ended, and tells where some of its tries aren't recorded.
-fn report_told<RT: Screen, W: Write>(
+fn write_report_and_tell<RT: Screen, W: Write>(
     crew: &Crew<'_, RT>,
     runs: &Runs,
     ended: &Ended<'_>,
@@ -187,13 +187,13 @@ fn report_told<RT: Screen, W: Write>(
 {
     let success = write_ended(crew.alloc, runs, ended, out)?;
     if matches!(stop, Some(Stop::WriteFailed | Stop::OutOfMemory)) {
-        tell_of_lost(crew.rt);
+        tell_unrecorded(crew.rt);
     }
     Ok(success)
 }
 
 /// Writes the report of a backfill that goes on from what is kept, and records each other try as it ends.
-fn write_recorded<RT, K, D, W>(
+fn record_and_write_report<RT, K, D, W>(
     crew: &Crew<'_, RT>,
     plan: &Plan,
     runs: &Runs,
@@ -229,11 +229,11 @@ where
         ended,
         device,
         stop,
-    } = ended_recorded(crew, plan, runs, kept, answers, record);
+    } = record_to_end(crew, plan, runs, kept, answers, record);
     match ended {
         Ok(ended) => {
             let _end = ended.state();
-            let report = report_told(crew, runs, &ended, stop, out);
+            let report = write_report_and_tell(crew, runs, &ended, stop, out);
             Recorded { report, device }
         }
         Err(fault) => Recorded {
@@ -288,7 +288,7 @@ where
     let plan = backfill.plan;
     let runs = backfill.runs;
     let mut journal = journal;
-    let tries = match tries_of(
+    let tries = match read_and_mend_journal(
         crew.rt,
         crew.alloc,
         plan,
@@ -314,5 +314,5 @@ where
         device: journal.device,
         most_failed: journal.stop_after,
     };
-    write_recorded(crew, plan, runs, &since, answers, record, out)
+    record_and_write_report(crew, plan, runs, &since, answers, record, out)
 }

@@ -21,14 +21,14 @@ ghost use Rattle.bf_commands.specs.Reported.{IsReportBy};
 use bf_try::TaskRunner;
 
 /// A graph file, a zone file and a range have one listing.
-pub fn one_list()
+pub fn listings_are_unique()
     ensures { (graph : List ℕ) (file : Option (List ℕ)) (range : RunRange)
         (xs ys : List Interval)
         → HasListing graph file range (Ok xs) → HasListing graph file range (Ok ys) → xs ≡ ys }
 {}
 
 /// A plan, a table and data intervals have one report, whatever the order in which the tries ran.
-pub fn one_report()
+pub fn reports_are_unique()
     ensures { (dag : Dag) → IsSound dag
         → (table : List TableEntry) (intervals : List Interval) (one two : List ℕ)
         (success other : Bool)
@@ -38,7 +38,7 @@ pub fn one_report()
 
 /// The bytes of a graph file, of a zone file and of a table, and a range, have one report. So what `dry` prints rests on them
 /// alone, and not on how many workers there are.
-pub fn one_dry_report()
+pub fn dry_reports_are_unique()
     ensures { (graph : List ℕ) (file : Option (List ℕ)) (table : List ℕ) (range : RunRange)
         (one two : List ℕ) (success other : Bool)
         → IsDryReport graph file table range one success
@@ -47,7 +47,7 @@ pub fn one_dry_report()
 {}
 
 /// So it is with a moment, and what `single` prints.
-pub fn one_single_report()
+pub fn single_reports_are_unique()
     ensures { (graph : List ℕ) (file : Option (List ℕ)) (table : List ℕ) (at : Timestamp)
         (one two : List ℕ) (success other : Bool)
         → IsSingleReport graph file table at one success → IsSingleReport graph file table at two other

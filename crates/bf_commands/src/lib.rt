@@ -26,13 +26,19 @@ mod stopping_clock;
 mod telling;
 
 pub use bf_progress::Screen;
-pub use clear::{Clearing, Prepared, clear_in, prepare, record_again, run_again};
+pub use clear::{
+    Clearing, Prepared, clear_in_report, prepare_backfill, record_resumed_report,
+    write_resumed_report,
+};
 pub use clear_plan::write_clear_plan;
 pub use cleared::ToClear;
 pub use crew::{Crew, Tells};
 pub use dry::run_dry;
 pub use journal::Journal;
 pub use journaled::Recorded;
-pub use laws::{crashes_change_no_report, one_dry_report, one_list, one_report, one_single_report};
+pub use laws::{
+    crashes_change_no_report, dry_reports_are_unique, listings_are_unique, reports_are_unique,
+    single_reports_are_unique,
+};
 pub use run::{record_programs, run_programs};
 pub use single::run_single;

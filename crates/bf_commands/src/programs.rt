@@ -7,26 +7,30 @@ use bf_failure::{Teller, Telling};
 use bf_interval::Runs;
 use bf_plan::Plan;
 use bf_process::{LogFaults, ProcessRunner, Starter};
-use bf_progress::{Screen, tell};
+use bf_progress::{Screen, tell_line};
 use std::alloc::Global;
 
 /// Tells lines on a screen.
 #[derive(Drop)]
-pub(crate) struct Shower<'m, RT> {
+pub(crate) struct ScreenTeller<'m, RT> {
     rt: &'m RT,
     alloc: Global,
 }
 
-impl<'m, RT: Screen> Teller for Shower<'m, RT> {
+impl<'m, RT: Screen> Teller for ScreenTeller<'m, RT> {
     ghost may_tell = { λ _ _. Unit {0} };
 
     fn tell(&self, line: &str) {
-        tell(self.rt, self.alloc, line);
+        tell_line(self.rt, self.alloc, line);
     }
 }
 
 /// Runs tries as programs, and tells those that fail, where that is asked for.
-pub(crate) type Programs<'a, RT> = Telling<'a, ProcessRunner<'a, 'a, 'a, 'a, RT>, Shower<'a, RT>>;
+pub(crate) type Programs<'a, RT> = Telling<
+    'a,
+    ProcessRunner<'a, 'a, 'a, 'a, RT>,
+    ScreenTeller<'a, RT>,
+>;
 
 /// What runs the tries of these runs of a plan as programs.
 #[tactic(auto, using(crate::proofs::Shown::anything))]
@@ -44,7 +48,7 @@ pub(crate) fn programs_of<'a, RT: Starter + Screen>(
 {
     let runner = ProcessRunner::new(crew.rt, crew.alloc, plan, runs, crew.launching);
     let teller = if crew.tells.failures {
-        Some(Shower {
+        Some(ScreenTeller {
             rt: crew.rt,
             alloc: crew.alloc,
         })
@@ -56,7 +60,7 @@ pub(crate) fn programs_of<'a, RT: Starter + Screen>(
 
 /// Tells where not all of the logs could be kept.
 pub(crate) fn tell_of_logs<RT: Screen>(rt: &RT, faults: &LogFaults) {
-    if faults.lost_some() {
+    if faults.has_incomplete_log() {
         rt.show("logs: not all could be kept\n");
     }
 }

@@ -8,7 +8,7 @@ ghost use Rattle.bf_commands.specs.OverTable.{IsUnsent};
 ghost use Rattle.bf_commands.specs.Reported.{IsEndFrom};
 
 use crate::crew::Crew;
-use crate::stop::stopped_recording;
+use crate::stop::stop_fault_of_recording;
 use crate::stopping_clock::StoppingClock;
 use bf_command_fault::CommandFault;
 use bf_core::Ended;
@@ -70,7 +70,7 @@ where
 }
 
 impl<'m, RT: Screen + Threads + Wait + Clock + Sync> Crew<'m, RT> {
-    fn recorded<'p, J, K, R, D, C>(
+    fn resume_branded<'p, J, K, R, D, C>(
         &self,
         plan: &'p Plan,
         runs: &Runs,
@@ -118,13 +118,13 @@ impl<'m, RT: Screen + Threads + Wait + Clock + Sync> Crew<'m, RT> {
             stops: &recording,
             told: 0,
         };
-        let ended = self.resumed(plan, runs, &kept, clock);
-        let (device, stop) = recording.end();
+        let ended = self.resume_by_workers(plan, runs, &kept, clock);
+        let (device, stop) = recording.close();
         let ended = match ended {
             Ok(ended) => Ok(ended),
             Err(fault) => {
-                let stopping = self.stopping(plan, runs, log_faults);
-                Err(stopped_recording(&stopping, &fault, stop, most_failed))
+                let stopping = self.stopped_backfill(plan, runs, log_faults);
+                Err(stop_fault_of_recording(&stopping, &fault, stop, most_failed))
             }
         };
         RecordedEnd {
@@ -136,7 +136,7 @@ impl<'m, RT: Screen + Threads + Wait + Clock + Sync> Crew<'m, RT> {
 
     /// As `resumed`, and each try that the runner makes is recorded as it ends. Where a record can't be written, and behind as
     /// many failed tries as may be, no further try is begun: those that run are waited for, and recorded if they can be.
-    pub(crate) fn resumed_recorded<'p, K, R, D, C>(
+    pub(crate) fn resume_recorded<'p, K, R, D, C>(
         &self,
         plan: &'p Plan,
         runs: &Runs,
@@ -162,6 +162,6 @@ impl<'m, RT: Screen + Threads + Wait + Clock + Sync> Crew<'m, RT> {
             plan.entry.now.dag runs.now)
             (D.written record.device) (D.written result.device) (is_write_failed result.stop) }
     {
-        self.recorded::<Brand, K, R, D, C>(plan, runs, keeping, record, clock, log_faults)
+        self.resume_branded::<Brand, K, R, D, C>(plan, runs, keeping, record, clock, log_faults)
     }
 }

@@ -48,7 +48,7 @@ pub fn run_programs<RT: Starter + Screen + Threads + Wait + Clock + Sync, W: Wri
         (W.written out.old) (W.written out.new)) }
 {
     let dated = dated_plan_in(crew.alloc, graph, zone_file, range)?;
-    let crew = crew.at(&dated.clocks);
+    let crew = crew.with_clocks(&dated.clocks);
     write_backfill(&crew, &dated.plan, &dated.runs, &NothingKept, None, out)
 }
 
@@ -91,6 +91,6 @@ where
         before: &NothingKept,
         cleared: &[],
     };
-    let crew = crew.at(&dated.clocks);
+    let crew = crew.with_clocks(&dated.clocks);
     record_backfill(&crew, &backfill, None, journal, out)
 }

@@ -48,7 +48,7 @@ pub fn run_single<RT: Starter + Screen + Threads + Wait + Clock + Sync, W: Write
 {
     let timed = timed_plan_in(alloc, graph, zone_file)?;
     let table = table_in(alloc, table)?;
-    let runs = Runs::at(alloc, at)?;
-    let crew = Crew::of(rt, alloc, Workers::one(), false);
+    let runs = Runs::single_at(alloc, at)?;
+    let crew = Crew::new(rt, alloc, Workers::one(), false);
     write_backfill(&crew, &timed.plan, &runs, &NothingKept, Some(table), out)
 }

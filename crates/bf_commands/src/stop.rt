@@ -16,7 +16,7 @@ use bf_value::{JobName, Text};
 use std::alloc::Global;
 
 /// What stopped the calling thread, where a table answers its tries: memory is wanting, and no try is given up.
-pub(crate) fn stopped_alone(fault: &BackfillFault) -> CommandFault
+pub(crate) fn stop_fault_alone(fault: &BackfillFault) -> CommandFault
     requires { MayFault (λ name given. ⊥) fault.now }
     ensures { result ≡ CommandFault.OutOfMemory }
 {
@@ -27,7 +27,7 @@ pub(crate) fn stopped_alone(fault: &BackfillFault) -> CommandFault
 }
 
 /// What stopped workers whose tries a table answers: none is given up.
-pub(crate) fn stopped_over_table(fault: &BackfillFault) -> CommandFault
+pub(crate) fn stop_fault_over_table(fault: &BackfillFault) -> CommandFault
     requires { MayFail (λ name given. ⊥) fault.now }
     ensures wanting { IsWantingWorkers false result }
     ensures unsent { IsUnsent result }
@@ -41,7 +41,7 @@ pub(crate) fn stopped_over_table(fault: &BackfillFault) -> CommandFault
 
 /// The backfill that stopped, the folder of its logs, where they are kept, and whether one of them couldn't be made.
 #[derive(Drop)]
-pub(crate) struct Stopping<'a> {
+pub(crate) struct StoppedBackfill<'a> {
     pub(crate) alloc: Global,
     pub(crate) plan: &'a Plan,
     pub(crate) runs: &'a Runs,
@@ -49,9 +49,9 @@ pub(crate) struct Stopping<'a> {
     pub(crate) cannot_log: bool,
 }
 
-impl<'a> Stopping<'a> {
+impl<'a> StoppedBackfill<'a> {
     /// The fault of a try whose logs can't be made. There is none of a try of no task or of no run, or without a folder of logs.
-    fn unlogged(&self, name: JobName) -> Option<CommandFault>
+    fn unlogged_fault(&self, name: JobName) -> Option<CommandFault>
         ensures told { IfSome result (IsGivenUp (option_map (λ l. l.now) self.now.logs)
             self.now.plan.now.dag self.now.runs.now name) }
         ensures unsent { IfSome result IsUnsent }
@@ -67,7 +67,7 @@ impl<'a> Stopping<'a> {
     }
 
     /// The fault of a try whose program can't be waited for.
-    fn lost(&self, name: JobName) -> CommandFault
+    fn lost_fault(&self, name: JobName) -> CommandFault
         ensures told { IsGivenUp (option_map (λ l. l.now) self.now.logs) self.now.plan.now.dag
             self.now.runs.now name result }
         ensures unsent { IsUnsent result }
@@ -83,23 +83,26 @@ impl<'a> Stopping<'a> {
     }
 
     /// The fault of a try that was given up.
-    fn given_up(&self, name: JobName) -> CommandFault
+    fn given_up_fault(&self, name: JobName) -> CommandFault
         ensures told { IsGivenUp (option_map (λ l. l.now) self.now.logs) self.now.plan.now.dag
             self.now.runs.now name result }
         ensures unsent { IsUnsent result }
     {
         if !self.cannot_log {
-            return self.lost(name);
+            return self.lost_fault(name);
         }
-        match self.unlogged(name) {
+        match self.unlogged_fault(name) {
             Some(fault) => fault,
-            None => self.lost(name),
+            None => self.lost_fault(name),
         }
     }
 }
 
 /// What stopped a backfill with the programs of the tasks.
-pub(crate) fn stopped_by_programs(stopping: &Stopping<'_>, fault: &BackfillFault) -> CommandFault
+pub(crate) fn stop_fault_by_programs(
+    stopping: &StoppedBackfill<'_>,
+    fault: &BackfillFault,
+) -> CommandFault
     ensures told { IsToldOf (option_map (λ l. l.now) stopping.now.logs) stopping.now.plan.now.dag
         stopping.now.runs.now fault.now result }
     ensures unsent { IsUnsent result }
@@ -107,13 +110,13 @@ pub(crate) fn stopped_by_programs(stopping: &Stopping<'_>, fault: &BackfillFault
     match fault {
         BackfillFault::OutOfMemory => CommandFault::OutOfMemory,
         BackfillFault::Start => CommandFault::Stopped(StopFault::CannotStart),
-        BackfillFault::Runner(name) => stopping.given_up(*name),
+        BackfillFault::Runner(name) => stopping.given_up_fault(*name),
     }
 }
 
 /// Why a try was given up whose end was to be recorded: no further one was begun, or the runner gave it up.
-fn stopped_at(
-    stopping: &Stopping<'_>,
+fn stop_fault_at_try(
+    stopping: &StoppedBackfill<'_>,
     name: JobName,
     stop: Option<Stop>,
     most_failed: Option<u32>,
@@ -128,13 +131,13 @@ fn stopped_at(
         (Some(Stop::EnoughFailed), Some(most)) => {
             CommandFault::Stopped(StopFault::EnoughFailed(most))
         }
-        _ => stopping.given_up(name),
+        _ => stopping.given_up_fault(name),
     }
 }
 
 /// What stopped a backfill whose tries were recorded, and of which so many may fail.
-pub(crate) fn stopped_recording(
-    stopping: &Stopping<'_>,
+pub(crate) fn stop_fault_of_recording(
+    stopping: &StoppedBackfill<'_>,
     fault: &BackfillFault,
     stop: Option<Stop>,
     most_failed: Option<u32>,
@@ -147,6 +150,6 @@ pub(crate) fn stopped_recording(
     match fault {
         BackfillFault::OutOfMemory => CommandFault::OutOfMemory,
         BackfillFault::Start => CommandFault::Stopped(StopFault::CannotStart),
-        BackfillFault::Runner(name) => stopped_at(stopping, *name, stop, most_failed),
+        BackfillFault::Runner(name) => stop_fault_at_try(stopping, *name, stop, most_failed),
     }
 }

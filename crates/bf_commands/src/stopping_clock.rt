@@ -19,7 +19,7 @@ where
     D: Durable + Drop,
 {
     fn has_stopped(&self) -> bool {
-        self.stop().is_some()
+        self.stop_reason().is_some()
     }
 }
 

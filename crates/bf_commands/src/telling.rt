@@ -11,24 +11,24 @@ fn lines_behind_head(held: &[u8]) -> usize {
 }
 
 /// Shows a line. Where memory was wanting for it, nothing is shown.
-fn show<RT: Screen>(rt: &RT, line: Result<String, AllocError>) {
+fn show_line<RT: Screen>(rt: &RT, line: Result<String, AllocError>) {
     if let Ok(line) = line {
         rt.show(line.as_str());
     }
 }
 
 /// Tells what was found of a journal that holds these bytes.
-pub(crate) fn tell_of<RT: Screen>(rt: &RT, alloc: Global, held: &[u8], found: &Found) {
+pub(crate) fn tell_found<RT: Screen>(rt: &RT, alloc: Global, held: &[u8], found: &Found) {
     let torn = found.torn;
     if torn > 0 {
         let line = format!(in alloc;
             "journal: {torn} bytes of a record that was cut short are dropped\n"
         );
-        show(rt, line);
+        show_line(rt, line);
     }
     if found.whole > 0 {
         let tries = lines_behind_head(held);
-        show(
+        show_line(
             rt,
             format!(in alloc; "journal: goes on behind {tries} tries\n"),
         );
@@ -36,6 +36,6 @@ pub(crate) fn tell_of<RT: Screen>(rt: &RT, alloc: Global, held: &[u8], found: &F
 }
 
 /// Tells that tries aren't recorded of which a report tells.
-pub(crate) fn tell_of_lost<RT: Screen>(rt: &RT) {
+pub(crate) fn tell_unrecorded<RT: Screen>(rt: &RT) {
     rt.show("journal: the report is whole, the journal isn't\n");
 }

@@ -2,7 +2,7 @@
 use Rattle.std.proofs.Common.{◌≡◌, ℕ, Bool, true, false, not, ◌&&◌, if◌then◌else◌, List, [], ◌∷◌, Option, None, Some, is_some, option_map, refl, sym, ap, ap₂, ◌∙◌}
 use Rattle.std.specs.List.{list_all, list_any}
 use Rattle.bf_core.specs.Terms.{Dag, Instance, Outcome, Phase, Task, TaskResult, TaskValue, Verdict, is_branch_in, task_of, verdict}
-use Rattle.bf_core.specs.Deciding.{Seen, branch_is, branch_skips, counts_over, is_blocked_in, lets_decide_in, ruling_of}
+use Rattle.bf_core.specs.Deciding.{Seen, branch_is, branch_skips, counts_over, is_blocked_in, lets_decide_in, upstream_verdict_of}
 use Rattle.bf_core.specs.Events.{results, cons_result}
 use Rattle.bf_core.specs.Words.{is_finished, instances_skip_in, known_to_be, phase_skips_in}
 use Rattle.bf_core.proofs.Sums.{some_results}
@@ -53,8 +53,8 @@ module _ (dag : Dag) (seen : ℕ → Seen) (t : ℕ) (d : Dag) (same : d ≡ dag
   abbrev chosen : Bool → Bool → Bool → Verdict
   chosen all skips blocks = if not all then Verdict.Wait else (if skips then Verdict.Skip else (if blocks then Verdict.Blocked else Rules))
 
-  ruling_is : chosen All Skips Blocks ≡ ruling_of dag seen t
-  unfolding ruling_of
+  ruling_is : chosen All Skips Blocks ≡ upstream_verdict_of dag seen t
+  unfolding upstream_verdict_of
   ruling_is = ap (λ us. body d task us) of ∙ ap (λ task. body d task task.upstreams) is ∙ ap (λ d. body d (task_of d t) (task_of d t).upstreams) same
     where
       body : Dag → Task → List ℕ → Verdict
@@ -64,14 +64,14 @@ module _ (dag : Dag) (seen : ℕ → Seen) (t : ℕ) (d : Dag) (same : d ≡ dag
           else (if list_any (λ u. branch_is d is_blocked_in u (seen u).value) us then Verdict.Blocked
           else verdict task.rule (counts_over seen us)))
 
-  pub ruling_waits : false ≡ All → Verdict.Wait ≡ ruling_of dag seen t
+  pub ruling_waits : false ≡ All → Verdict.Wait ≡ upstream_verdict_of dag seen t
   ruling_waits p = ap (λ all. chosen all Skips Blocks) p ∙ ruling_is
 
-  pub ruling_skips : true ≡ All → true ≡ Skips → Verdict.Skip ≡ ruling_of dag seen t
+  pub ruling_skips : true ≡ All → true ≡ Skips → Verdict.Skip ≡ upstream_verdict_of dag seen t
   ruling_skips p q = ap₂ (λ all skips. chosen all skips Blocks) p q ∙ ruling_is
 
-  pub ruling_blocks : true ≡ All → false ≡ Skips → true ≡ Blocks → Verdict.Blocked ≡ ruling_of dag seen t
+  pub ruling_blocks : true ≡ All → false ≡ Skips → true ≡ Blocks → Verdict.Blocked ≡ upstream_verdict_of dag seen t
   ruling_blocks p q r = ap₂ (λ skips blocks. chosen true skips blocks) q r ∙ ap (λ all. chosen all Skips Blocks) p ∙ ruling_is
 
-  pub ruling_rules : true ≡ All → false ≡ Skips → false ≡ Blocks → Rules ≡ ruling_of dag seen t
+  pub ruling_rules : true ≡ All → false ≡ Skips → false ≡ Blocks → Rules ≡ upstream_verdict_of dag seen t
   ruling_rules p q r = ap₂ (λ skips blocks. chosen true skips blocks) q r ∙ ap (λ all. chosen all Skips Blocks) p ∙ ruling_is

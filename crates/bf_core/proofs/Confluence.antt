@@ -2,7 +2,7 @@
 use Rattle.std.proofs.Common.{◌≡◌, ℕ, suc, zero, ◌+◌, ◌<◌, ◌≤◌, Bool, true, false, List, [], ◌∷◌, length, Option, None, Some, slice_get, refl, sym, ap, ap₂, ◌∙◌, arith, ext_get_or, slice_index_or}
 use Rattle.std.specs.FinMap as map
 use Rattle.bf_core.specs.Terms.{Verdict, Cell, Phase, RunPhase, Run, name_cmp, name_cmp_total, name_cmp-IsAntisymmetric, Dag, task_of, Given, Outcome, Entry, JobName, Ledger, TaskResult, result_of, name_of, outcome_at, outcome_of, last_try, TaskValue, IsOneOf, IsSettledAncestor, Direct, Above, IsSound, State, AreAlike}
-use Rattle.bf_core.specs.Deciding.{Seen, settled, Decision, and_then_past, after_verdict, gate_of, decision}
+use Rattle.bf_core.specs.Deciding.{Seen, settled, Decision, and_then_past, after_verdict, task_verdict_of, decision}
 use Rattle.bf_core.specs.Recursion.{out, before, decided, value_of, results_from, Asks, IsDefined}
 use Rattle.bf_core.proofs.Shape.{IsShaped, row_in}
 use Rattle.bf_core.specs.Events.{HasEnded, no_run, phase_in, cell_in, entry_in, cell_at, place_in}
@@ -35,7 +35,7 @@ past_free dag k t p q Verdict.Wait e = refl
 past_free dag k t p q _ e = refl
 
 decision_free : (dag : Dag) (k : ℕ) (seen : ℕ → Seen) (p q : Option TaskValue) (t : ℕ) → (task_of dag t).depends_on_past ≡ false → decision dag k seen p t ≡ decision dag k seen q t
-unfolding decision gate_of
+unfolding decision task_verdict_of
 decision_free dag k seen p q t e = ap (after_verdict dag seen t) (past_free dag k t p q _ e)
 
 -- the tries that the recursion asks for of an instance, over a ledger that has them

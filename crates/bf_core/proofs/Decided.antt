@@ -3,7 +3,7 @@ use Rattle.std.proofs.Common.{◌≡◌, ◌≢◌, ℕ, ◌&&◌, ◌||◌, not
 use Rattle.std.specs.List.{list_all, AllByRecursion}
 use Rattle.std.proofs.lemmas.Bool.{and_parts}
 use Rattle.bf_core.specs.Terms.{map_index, Dag, Task, task_of, Verdict, is_waiting, Outcome, JobName, name_of, is_failed, TaskValue, State, Cell, Instance, is_branch_in}
-use Rattle.bf_core.specs.Deciding.{Seen, settled, lets_decide_in, ruling_of, and_then_past, gate_of, decision}
+use Rattle.bf_core.specs.Deciding.{Seen, settled, lets_decide_in, upstream_verdict_of, and_then_past, task_verdict_of, decision}
 use Rattle.bf_core.specs.Events.{cell_at, put, instance_of, value_in}
 use Rattle.bf_core.proofs.Decisions.{AllKnown}
 use Rattle.bf_core.proofs.Reading.{put_cases}
@@ -13,13 +13,13 @@ pub all_of : (P Q : ℕ → Type 0) → ((u : ℕ) → P u → Q u) → (us : Li
 all_of P Q h [] all = tt
 all_of P Q h (u ∷ us) all = (h u all.0, all_of P Q h us all.1)
 
-pub ruled : (dag : Dag) (seen : ℕ → Seen) (t : ℕ) → list_all (lets_decide_in dag (task_of dag t) seen) (task_of dag t).upstreams ≡ false → ruling_of dag seen t ≡ Verdict.Wait
-unfolding ruling_of
+pub ruled : (dag : Dag) (seen : ℕ → Seen) (t : ℕ) → list_all (lets_decide_in dag (task_of dag t) seen) (task_of dag t).upstreams ≡ false → upstream_verdict_of dag seen t ≡ Verdict.Wait
+unfolding upstream_verdict_of
 ruled dag seen t e = rw e
 
-pub lets : (dag : Dag) (k : ℕ) (seen : ℕ → Seen) (p : Option TaskValue) (t : ℕ) → gate_of dag k seen p t ≢ Verdict.Wait →
+pub lets : (dag : Dag) (k : ℕ) (seen : ℕ → Seen) (p : Option TaskValue) (t : ℕ) → task_verdict_of dag k seen p t ≢ Verdict.Wait →
     list_all (lets_decide_in dag (task_of dag t) seen) (task_of dag t).upstreams ≡ true
-unfolding gate_of
+unfolding task_verdict_of
 lets dag k seen p t decides = go (list_all (lets_decide_in dag (task_of dag t) seen) (task_of dag t).upstreams) refl
   where
     go : (b : Bool) → list_all (lets_decide_in dag (task_of dag t) seen) (task_of dag t).upstreams ≡ b → list_all (lets_decide_in dag (task_of dag t) seen) (task_of dag t).upstreams ≡ true

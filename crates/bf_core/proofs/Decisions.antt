@@ -3,7 +3,7 @@ use Rattle.std.proofs.Common.{◌≡◌, ◌≢◌, ℕ, Bool, true, false, not,
 use Rattle.std.specs.List.{list_any, list_all, AllByRecursion}
 use Rattle.std.proofs.lemmas.Bool.{and_parts, and_from}
 use Rattle.bf_core.specs.Terms.{Dag, Task, task_of, Xval, Verdict, verdict, TaskValue, pull_of, items, is_branch_in}
-use Rattle.bf_core.specs.Deciding.{Seen, lets_decide_in, branch_is, ruling_of, counts_over, past_ruling, and_then_past, Decision, pull_seen, pulled, instances_of, mapped, after_verdict, gate_of, decision, branch_skips, is_blocked_in}
+use Rattle.bf_core.specs.Deciding.{Seen, lets_decide_in, branch_is, upstream_verdict_of, counts_over, past_ruling, and_then_past, Decision, pull_seen, pulled, instances_of, mapped, after_verdict, task_verdict_of, decision, branch_skips, is_blocked_in}
 use Rattle.bf_rule.specs.Verdicts.{IsLater}
 use Rattle.bf_rule.proofs.Later.{add_later, verdict_stable}
 
@@ -63,8 +63,8 @@ lines_stable true n s t b c v w same stable decides = rw ((same refl).0, ← (sa
     go false false d = stable d
 
 pub ruling_stable : (dag : Dag) (a b : ℕ → Seen) (t : ℕ) → ((u : ℕ) → IsSeenLater (a u) (b u)) →
-    ruling_of dag a t ≢ Verdict.Wait → ruling_of dag a t ≡ ruling_of dag b t
-unfolding lines ruling_of
+    upstream_verdict_of dag a t ≢ Verdict.Wait → upstream_verdict_of dag a t ≡ upstream_verdict_of dag b t
+unfolding lines upstream_verdict_of
 ruling_stable dag a b t later decides =
     let us : List ℕ = (task_of dag t).upstreams in
     let task : Task = task_of dag t in
@@ -93,10 +93,10 @@ waits_anyway : (dag : Dag) (k t : ℕ) (p : Option TaskValue) (v : Verdict) → 
 waits_anyway dag k t p v e = rw e
 
 pub gate_stable : (dag : Dag) (k : ℕ) (a b : ℕ → Seen) (p q : Option TaskValue) (t : ℕ) → ((u : ℕ) → IsSeenLater (a u) (b u)) → StaysKnown p q →
-    gate_of dag k a p t ≢ Verdict.Wait → gate_of dag k a p t ≡ gate_of dag k b q t
-unfolding gate_of
+    task_verdict_of dag k a p t ≢ Verdict.Wait → task_verdict_of dag k a p t ≡ task_verdict_of dag k b q t
+unfolding task_verdict_of
 gate_stable dag k a b p q t later stays decides =
-    then_past_stable dag k t p q stays (ruling_of dag a t) decides
+    then_past_stable dag k t p q stays (upstream_verdict_of dag a t) decides
     ∙ ap (and_then_past dag k q t) (ruling_stable dag a b t later (λ e. decides (waits_anyway dag k t p _ e)))
 
 -- ---- the instances
@@ -142,9 +142,9 @@ after_stable dag a b t later _ known decides = refl
 
 -- a decision that doesn't wait is the same over what is known later, where what the task pulls from is settled if it runs
 pub decision_stable : (dag : Dag) (k : ℕ) (a b : ℕ → Seen) (p q : Option TaskValue) (t : ℕ) →
-    ((u : ℕ) → IsSeenLater (a u) (b u)) → StaysKnown p q → (gate_of dag k a p t ≢ Verdict.Wait → AllKnown a (task_of dag t).pulls) →
+    ((u : ℕ) → IsSeenLater (a u) (b u)) → StaysKnown p q → (task_verdict_of dag k a p t ≢ Verdict.Wait → AllKnown a (task_of dag t).pulls) →
     decision dag k a p t ≢ Decision.Wait → decision dag k a p t ≡ decision dag k b q t
 unfolding decision
 decision_stable dag k a b p q t later stays pulls decides =
-    after_stable dag a b t later (gate_of dag k a p t) pulls decides
+    after_stable dag a b t later (task_verdict_of dag k a p t) pulls decides
     ∙ ap (after_verdict dag b t) (gate_stable dag k a b p q t later stays (λ e. decides (rw e)))

@@ -2,7 +2,7 @@
 use Rattle.std.proofs.Common.{◌≡◌, ℕ, suc, zero, ◌<◌, ◌≤◌, Bool, not, ◌&&◌, ◌||◌, List, [], ◌∷◌, length, map, Option, None, Some, is_some, option_and_then, refl, ap, ap₂, ◌∙◌, arith, inl, inr}
 use Rattle.std.specs.List.{list_any, list_all, AllByRecursion}
 use Rattle.bf_core.specs.Terms.{is_waiting, Dag, Task, task_of, Xval, Verdict, Ledger, TaskValue, pull_of, items, IsOneOf, IsSettledAncestor, Direct, Above, IsSound, add, is_branch_in}
-use Rattle.bf_core.specs.Deciding.{Seen, settled, lets_decide_in, branch_is, branch_skips, is_blocked_in, ruling_of, counts_over, Decision, pull_seen, pulled, instances_of, mapped, after_verdict, and_then_past, gate_of, decision}
+use Rattle.bf_core.specs.Deciding.{Seen, settled, lets_decide_in, branch_is, branch_skips, is_blocked_in, upstream_verdict_of, counts_over, Decision, pull_seen, pulled, instances_of, mapped, after_verdict, and_then_past, task_verdict_of, decision}
 use Rattle.bf_core.specs.Recursion.{value_of, out_to, out, before, decided}
 
 -- two sights of the tasks of a list are the same
@@ -28,8 +28,8 @@ pulls_cong : (dag : Dag) (a b : ℕ → Seen) (us : List ℕ) → SameOn a b us 
 pulls_cong dag a b [] same = refl
 pulls_cong dag a b (u ∷ us) same = ap₂ (λ x y. option_and_then (pull_of (task_of dag u)) x.value ∷ y) (same u (inl refl)) (pulls_cong dag a b us (λ v h. same v (inr h)))
 
-pub ruling_cong : (dag : Dag) (a b : ℕ → Seen) (t : ℕ) → SameOn a b (task_of dag t).upstreams → ruling_of dag a t ≡ ruling_of dag b t
-unfolding ruling_of
+pub ruling_cong : (dag : Dag) (a b : ℕ → Seen) (t : ℕ) → SameOn a b (task_of dag t).upstreams → upstream_verdict_of dag a t ≡ upstream_verdict_of dag b t
+unfolding upstream_verdict_of
 ruling_cong dag a b t same =
     rw (
       all_cong dag (task_of dag t) a b (task_of dag t).upstreams same,
@@ -57,7 +57,7 @@ after_cong dag a b t _ same source = refl
 -- a decision rests on the upstreams, the pulls, and the source, which is an upstream
 pub decision_cong : (dag : Dag) (k : ℕ) (a b : ℕ → Seen) (p : Option TaskValue) (t : ℕ) → IsSound dag →
     SameOn a b (task_of dag t).upstreams → SameOn a b (task_of dag t).pulls → decision dag k a p t ≡ decision dag k b p t
-unfolding decision gate_of
+unfolding decision task_verdict_of
 decision_cong dag k a b p t sound ups pulls =
     ap (λ v. after_verdict dag a t (and_then_past dag k p t v)) (ruling_cong dag a b t ups)
     ∙ after_cong dag a b t _ pulls (λ s e. ups s (sound.source_is_upstream t s e))

@@ -7,11 +7,11 @@ use Rattle.std.proofs.lemmas.Bool.{and_parts}
 use Rattle.bf_value.specs.declared.xval.Xval.TheVariants.{Nil, Flag, Int, Text, List as ListOf}
 use Rattle.bf_value.specs.Views.{xvals_of}
 use Rattle.bf_mapped.specs.Items.{items_of}
-use Rattle.bf_xcom.specs.Pulls.{pushed_alone_in}
+use Rattle.bf_xcom.specs.Pulls.{only_pushed_value_in}
 use Rattle.bf_plan.specs.Plans.{no_task}
 use Rattle.bf_rule.specs.Branches.{names_downstreams_in}
-use Rattle.bf_try.specs.Grades.{gives_items_in, is_list_of_items_in, is_short_in, is_source, is_value_of_lines_in, most_items}
-use Rattle.bf_core.specs.Terms.{Cell, Dag, Instance, Items, Outcome, Phase, SourceValues, Task, TaskResult, TaskValue, Xval, fits_in, is_branch_in, items, pushed_of, shape_of, source_values, task_of}
+use Rattle.bf_try.specs.Grades.{gives_items_in, is_list_of_items_in, is_short_value_in, is_source, is_readable_from_line_in, most_items}
+use Rattle.bf_core.specs.Terms.{Cell, Dag, Instance, Items, Outcome, Phase, SourceValues, Task, TaskResult, TaskValue, Xval, fits_in, is_branch_in, items, pushed_value_of, shape_of, source_values, task_of}
 use Rattle.bf_core.specs.Events.{cons_result, results, value_in}
 use Rattle.bf_core.specs.Few.{HasFitting, IsFew, IsFitting}
 use Rattle.bf_core.specs.Words.{pushed_by_first, pushed_by_one, pushed_in, sourced_from}
@@ -22,8 +22,8 @@ use Rattle.bf_core.proofs.Numbers.{le_from}
 -- ---- by instances
 
 -- each result has pushed what its instance has
-each_cons : (a : ℕ) (p : Phase) (o : Option (List TaskResult)) (values : List (Option Xval)) → ((ts : List TaskResult) → o ≡ Some ts → map pushed_of ts ≡ values) →
-    (rs : List TaskResult) → cons_result a p o ≡ Some rs → map pushed_of rs ≡ pushed_in p ∷ values
+each_cons : (a : ℕ) (p : Phase) (o : Option (List TaskResult)) (values : List (Option Xval)) → ((ts : List TaskResult) → o ≡ Some ts → map pushed_value_of ts ≡ values) →
+    (rs : List TaskResult) → cons_result a p o ≡ Some rs → map pushed_value_of rs ≡ pushed_in p ∷ values
 each_cons a (Phase.Finished o) (Some ts) values h [] e = cc
 each_cons a (Phase.Finished o) (Some ts) values h (r ∷ rs) e =
     let out : r.outcome ≡ o = cc in
@@ -33,7 +33,7 @@ each_cons a (Phase.Finished o) None values h rs e = cc
 each_cons a Phase.Waiting o values h rs e = cc
 each_cons a Phase.Running o values h rs e = cc
 
-each_pushed : (xs : List Instance) (rs : List TaskResult) → results xs ≡ Some rs → map pushed_of rs ≡ map pushed_by_one xs
+each_pushed : (xs : List Instance) (rs : List TaskResult) → results xs ≡ Some rs → map pushed_value_of rs ≡ map pushed_by_one xs
 each_pushed [] [] e = refl
 each_pushed [] (r ∷ rs) e = cc
 each_pushed (x ∷ xs) rs e = each_cons x.attempt x.phase (results xs) _ (each_pushed xs) rs e
@@ -43,7 +43,7 @@ either None one each = refl
 either (Some source) one each = refl
 
 source_of : (source : Task) (one : Option Xval) (each : List (Option Xval)) (o : Option (List TaskResult)) (f : Bool) → is_some o ≡ f →
-    ((rs : List TaskResult) → o ≡ Some rs → pushed_alone_in rs ≡ one) → ((rs : List TaskResult) → o ≡ Some rs → map pushed_of rs ≡ each) →
+    ((rs : List TaskResult) → o ≡ Some rs → only_pushed_value_in rs ≡ one) → ((rs : List TaskResult) → o ≡ Some rs → map pushed_value_of rs ≡ each) →
     (if not f then None else (if is_none source.expand then Some (SourceValues.Pushed one) else Some (SourceValues.Each each))) ≡ option_map (source_values source) (option_map TaskValue.Ran o)
 source_of source one each None f e alone all = rw (← e)
 source_of source one each (Some rs) f e alone all =
@@ -110,7 +110,7 @@ few_list : (dag : Dag) (p : ℕ) (v : Option Xval) → fits_in dag p (Outcome.Su
 unfolding fits_in
 few_list dag p v e h =
     or_else (gives_items_in dag p) (is_list_of_items_in v)
-    (and_parts (not (is_branch_in (task_of dag p)) || names_downstreams_in (shape_of dag) p v) _ (and_parts (is_short_in v) _ (and_parts (is_value_of_lines_in v) _ e).1).1).1 h
+    (and_parts (not (is_branch_in (task_of dag p)) || names_downstreams_in (shape_of dag) p v) _ (and_parts (is_short_value_in v) _ (and_parts (is_readable_from_line_in v) _ e).1).1).1 h
 
 few_pushed : (v : Option Xval) → is_list_of_items_in v ≡ true → AreFewItems (items_of (SourceValues.Pushed v))
 few_pushed None e = tt
@@ -132,8 +132,8 @@ few_alone : (dag : Dag) (p : ℕ) (xs : List Instance) → AllByRecursion (λ x.
 few_alone dag p [] fit h = tt
 few_alone dag p (x ∷ xs) fit h = few_first dag p x.phase fit.0 h
 
-few_each : (xs : List Instance) (rs : List TaskResult) → length xs ≤ most_items → length rs ≡ length xs → length (filter_map (λ v. v) (map pushed_of rs)) ≤ most_items
-few_each xs rs few same = omega (arith, length_filter_map (λ (v : Option Xval). v) (map pushed_of rs), length-map rs pushed_of, few, same)
+few_each : (xs : List Instance) (rs : List TaskResult) → length xs ≤ most_items → length rs ≡ length xs → length (filter_map (λ v. v) (map pushed_value_of rs)) ≤ most_items
+few_each xs rs few same = omega (arith, length_filter_map (λ (v : Option Xval). v) (map pushed_value_of rs), length-map rs pushed_value_of, few, same)
 
 by_kind : (o : Option ℕ) (each one : SourceValues) → AreFewItems (items_of each) → (o ≡ None → AreFewItems (items_of one)) → AreFewItems (items_of (if is_some o then each else one))
 by_kind None each one x y = y refl
@@ -154,6 +154,6 @@ few_items dag t p e Cell.Skipped few fit v is = let same : TaskValue.Skipped ≡
 few_items dag t p e Cell.UpstreamFailed few fit v is = let same : TaskValue.UpstreamFailed ≡ v = cc in subst (λ (w : TaskValue). AreFewItems (items (task_of dag p) w)) same tt
 few_items dag t p e (Cell.Ran xs) few fit v is =
     few_ran (task_of dag p) v (results xs) (λ rs h.
-    by_kind (task_of dag p).expand (SourceValues.Each (map pushed_of rs)) (SourceValues.Pushed (pushed_alone_in rs))
+    by_kind (task_of dag p).expand (SourceValues.Each (map pushed_value_of rs)) (SourceValues.Pushed (only_pushed_value_in rs))
     (few_each xs rs few (length_results xs rs h))
     (λ alone. subst (λ (w : Option Xval). AreFewItems (items_of (SourceValues.Pushed w))) (sym (first_pushed xs rs h)) (few_alone dag p xs fit (gives dag t p e alone)))) is

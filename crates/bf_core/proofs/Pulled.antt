@@ -2,28 +2,28 @@
 use Rattle.std.proofs.Common.{◌≡◌, Bool, true, not, if◌then◌else◌, List, [], ◌∷◌, Option, None, Some, is_some, is_none, option_map, option_and_then, ℕ, refl, sym, ap, ap₂, ◌∙◌}
 use Rattle.std.specs.List.{filter_map, cons_option}
 use Rattle.bf_value.specs.Views.{list_of}
-use Rattle.bf_xcom.specs.Pulls.{pushed_alone_in, pushed_by, all_pushed_in}
+use Rattle.bf_xcom.specs.Pulls.{only_pushed_value_in, pushed_by, pushed_values_in}
 use Rattle.bf_core.specs.Terms.{Instance, Phase, Task, TaskResult, TaskValue, Xval, pull_of}
 use Rattle.bf_core.specs.Events.{results, cons_result}
 use Rattle.bf_core.specs.Words.{pushed_in, pushed_by_one, pushed_by_first, pulled_from}
 use Rattle.bf_core.proofs.Sums.{some_results}
 
 -- the first result is the first instance's
-first_cons : (a : ℕ) (p : Phase) (o : Option (List TaskResult)) (rs : List TaskResult) → cons_result a p o ≡ Some rs → pushed_alone_in rs ≡ pushed_in p
+first_cons : (a : ℕ) (p : Phase) (o : Option (List TaskResult)) (rs : List TaskResult) → cons_result a p o ≡ Some rs → only_pushed_value_in rs ≡ pushed_in p
 first_cons a (Phase.Finished o) (Some ts) [] e = cc
 first_cons a (Phase.Finished o) (Some ts) (r ∷ rs) e = let out : r.outcome ≡ o = cc in rw out
 first_cons a (Phase.Finished o) None rs e = cc
 first_cons a Phase.Waiting o rs e = cc
 first_cons a Phase.Running o rs e = cc
 
-pub first_pushed : (xs : List Instance) (rs : List TaskResult) → results xs ≡ Some rs → pushed_alone_in rs ≡ pushed_by_first xs
+pub first_pushed : (xs : List Instance) (rs : List TaskResult) → results xs ≡ Some rs → only_pushed_value_in rs ≡ pushed_by_first xs
 first_pushed [] [] e = refl
 first_pushed [] (r ∷ rs) e = cc
 first_pushed (x ∷ xs) rs e = first_cons x.attempt x.phase (results xs) rs e
 
 -- the results have pushed what the instances have
-all_cons : (a : ℕ) (p : Phase) (o : Option (List TaskResult)) (values : List Xval) → ((ts : List TaskResult) → o ≡ Some ts → all_pushed_in ts ≡ values) →
-    (rs : List TaskResult) → cons_result a p o ≡ Some rs → all_pushed_in rs ≡ cons_option (pushed_in p) values
+all_cons : (a : ℕ) (p : Phase) (o : Option (List TaskResult)) (values : List Xval) → ((ts : List TaskResult) → o ≡ Some ts → pushed_values_in ts ≡ values) →
+    (rs : List TaskResult) → cons_result a p o ≡ Some rs → pushed_values_in rs ≡ cons_option (pushed_in p) values
 all_cons a (Phase.Finished o) (Some ts) values h [] e = cc
 all_cons a (Phase.Finished o) (Some ts) values h (r ∷ rs) e =
     let out : r.outcome ≡ o = cc in
@@ -33,7 +33,7 @@ all_cons a (Phase.Finished o) None values h rs e = cc
 all_cons a Phase.Waiting o values h rs e = cc
 all_cons a Phase.Running o values h rs e = cc
 
-all_have_pushed : (xs : List Instance) (rs : List TaskResult) → results xs ≡ Some rs → all_pushed_in rs ≡ filter_map pushed_by_one xs
+all_have_pushed : (xs : List Instance) (rs : List TaskResult) → results xs ≡ Some rs → pushed_values_in rs ≡ filter_map pushed_by_one xs
 all_have_pushed [] [] e = refl
 all_have_pushed [] (r ∷ rs) e = cc
 all_have_pushed (x ∷ xs) rs e = all_cons x.attempt x.phase (results xs) _ (all_have_pushed xs) rs e
@@ -43,7 +43,7 @@ either None one list = refl
 either (Some source) one list = refl
 
 pull_of_source : (source : Task) (one : Option Xval) (values : List Xval) (o : Option (List TaskResult)) (f : Bool) → is_some o ≡ f →
-    ((rs : List TaskResult) → o ≡ Some rs → pushed_alone_in rs ≡ one) → ((rs : List TaskResult) → o ≡ Some rs → all_pushed_in rs ≡ values) →
+    ((rs : List TaskResult) → o ≡ Some rs → only_pushed_value_in rs ≡ one) → ((rs : List TaskResult) → o ≡ Some rs → pushed_values_in rs ≡ values) →
     (if not f then None else (if is_none source.expand then one else Some (list_of values))) ≡ option_and_then (pull_of source) (option_map TaskValue.Ran o)
 pull_of_source source one values None f e alone all = rw (← e)
 pull_of_source source one values (Some rs) f e alone all =

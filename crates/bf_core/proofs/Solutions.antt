@@ -1,7 +1,7 @@
 -- The recursion's values are the one solution of its equation.
 use Rattle.std.proofs.Common.{◌≡◌, ℕ, suc, zero, ◌<◌, Bool, true, false, Option, None, Some, refl, sym, ap, ◌∙◌, arith}
 use Rattle.bf_core.specs.Terms.{Dag, Ledger, TaskValue, Verdict, IsSound, task_of}
-use Rattle.bf_core.specs.Deciding.{Seen, settled, past_after, after_verdict, ruling_of, gate_of, decision}
+use Rattle.bf_core.specs.Deciding.{Seen, settled, past_after, after_verdict, upstream_verdict_of, task_verdict_of, decision}
 use Rattle.bf_core.specs.Recursion.{value_of, out, before, decided, SolvesRecursion}
 use Rattle.bf_core.proofs.Depth.{decision_cong, pull_below, out_is}
 
@@ -12,8 +12,8 @@ same_past false past other Verdict.Run = refl
 same_past depends past other _ = refl
 
 pub first_same : (dag : Dag) (seen : ℕ → Seen) (past other : Option TaskValue) (task : ℕ) → decision dag 0 seen past task ≡ decision dag 0 seen other task
-unfolding decision gate_of
-first_same dag seen past other task = ap (after_verdict dag seen task) (same_past (task_of dag task).depends_on_past past other (ruling_of dag seen task))
+unfolding decision task_verdict_of
+first_same dag seen past other task = ap (after_verdict dag seen task) (same_past (task_of dag task).depends_on_past past other (upstream_verdict_of dag seen task))
 
 module _ (dag : Dag) (sound : IsSound dag) (ledger : Ledger) where
   -- the equation in one run, behind a past

@@ -79,8 +79,8 @@ lets_decide_in dag task seen upstream =
     is_some (seen upstream).value || (not (is_waiting task.rule)
     && not (is_branch_in (task_of dag upstream)))
 
-unfoldable pub ruling_of : Dag → (ℕ → Seen) → ℕ → Verdict
-ruling_of dag seen task =
+unfoldable pub upstream_verdict_of : Dag → (ℕ → Seen) → ℕ → Verdict
+upstream_verdict_of dag seen task =
     if not (list_all (lets_decide_in dag (task_of dag task) seen) (task_of dag task).upstreams)
     then Verdict.Wait
     else (if list_any (λ upstream. branch_is dag (branch_skips dag task upstream) upstream
@@ -147,9 +147,9 @@ after_verdict dag seen task Verdict.Run =
     instances_of dag seen (pulled dag seen task) (task_of dag task).expand
 
 -- the verdict, with the past
-unfoldable pub gate_of : Dag → ℕ → (ℕ → Seen) → Option TaskValue → ℕ → Verdict
-gate_of dag run seen before task = and_then_past dag run before task (ruling_of dag seen task)
+unfoldable pub task_verdict_of : Dag → ℕ → (ℕ → Seen) → Option TaskValue → ℕ → Verdict
+task_verdict_of dag run seen before task = and_then_past dag run before task (upstream_verdict_of dag seen task)
 
 -- what is decided of the task in the run
 unfoldable pub decision : Dag → ℕ → (ℕ → Seen) → Option TaskValue → ℕ → Decision
-decision dag run seen before task = after_verdict dag seen task (gate_of dag run seen before task)
+decision dag run seen before task = after_verdict dag seen task (task_verdict_of dag run seen before task)

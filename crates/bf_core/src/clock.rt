@@ -93,7 +93,7 @@ impl Clock {
     }
 
     /// The moment for which a try waits, where that is later than what the clock shows.
-    pub(crate) fn later(&self, name: JobName) -> Option<i64>
+    pub(crate) fn later_moment_of(&self, name: JobName) -> Option<i64>
         ensures moment { IfSome result (λ m. FinMap.get self.now.moments name ≡ Some m) }
         ensures later { IfSome result (λ m. self.now.time <ℤ m) }
         ensures none { IfNone result (IsTimely self.now (Event.Begin name)) }
@@ -120,7 +120,7 @@ impl Clock {
     }
 
     /// Lets the next try wait as long as is asked, where it is made and its moment is a later one.
-    fn wait(&mut self, retry: Retry) -> Result<(), OutOfMemory>
+    fn delay_retry(&mut self, retry: Retry) -> Result<(), OutOfMemory>
         requires begun { pos 0 ≤ℤ self.old.time }
         requires within { self.old.time ≤ℤ last_moment }
         ensures ok { OnOk result (self.new
@@ -163,7 +163,7 @@ pub(crate) fn note_end(
     ensures same_clock { OnErr result (clock.new ≡ clock.old) }
     ensures same_ledger { OnErr result (ledger.new ≡ ledger.old) }
 {
-    clock.wait(retry)?;
+    clock.delay_retry(retry)?;
     match ledger.note(name, entry) {
         Ok(()) => Ok(()),
         Err((_, NoteFault::AlreadyRecorded)) => unreachable!(),

@@ -2,16 +2,16 @@
 ghost use Rattle.std.specs.Prelude.{◌≡◌, ◌<◌, ◌↔◌, ◌&&◌, length, map, is_some, IsTrue, IfOk, OnOk, IfErr};
 ghost use Rattle.bf_core.specs.Terms.{task_of};
 ghost use Rattle.bf_core.specs.Events.{cell_at, seen_in, before_in, is_run, fresh, cell_of};
-ghost use Rattle.bf_core.specs.Deciding.{after_verdict, gate_of};
+ghost use Rattle.bf_core.specs.Deciding.{after_verdict, task_verdict_of};
 ghost use Rattle.bf_core.specs.Few.{AreFew};
 ghost use Rattle.bf_core.specs.Checks.{HasRows, RefusedFor, IsUndecidedNow};
 ghost use Rattle.bf_core.specs.Cores.{IsThere};
 
 use crate::event::Illegal;
-use crate::expansion::instances;
-use crate::past::with_past;
+use crate::expansion::decide_instances;
+use crate::past::verdict_with_past;
 use crate::state::{Cell, Instance, Phase, State};
-use crate::upstreams::{is_settled, ruling};
+use crate::upstreams::{is_settled, upstream_verdict};
 use bf_plan::{Dag, Plan};
 use bf_rule::Verdict;
 use bf_value::{OutOfMemory, Sequence};
@@ -69,7 +69,12 @@ impl Decision {
 }
 
 /// Refuses a task that is not undecided in an open run.
-pub(crate) fn undecided(dag: &Dag, state: &State, run: u32, task: u32) -> Result<(), Illegal>
+pub(crate) fn refuse_unless_undecided(
+    dag: &Dag,
+    state: &State,
+    run: u32,
+    task: u32,
+) -> Result<(), Illegal>
     requires { HasRows dag.now state.now }
     ensures ok { OnOk result (IsThere dag.now state.now run task
         × IsUndecidedNow state.now run task) }
@@ -99,19 +104,19 @@ pub(crate) fn is_undecided(dag: &Dag, state: &State, run: u32, task: u32) -> boo
 
 /// What the upstreams and the past say of a task.
 #[tactic(auto, unfolding(crate::specs::Deciding::gate))]
-pub(crate) fn gate(plan: &Plan, state: &State, run: u32, task: u32) -> Verdict
+pub(crate) fn task_verdict(plan: &Plan, state: &State, run: u32, task: u32) -> Verdict
     requires task { task < length plan.now.dag.tasks }
     requires few { AreFew state.now }
-    ensures { result ≡ gate_of plan.now.dag run (λ u. seen_in (cell_at state.now run u))
+    ensures { result ≡ task_verdict_of plan.now.dag run (λ u. seen_in (cell_at state.now run u))
         (before_in state.now run task) task }
 {
     let depends_on_past = plan.dag().task(task).depends_on_past;
-    let verdict = ruling(plan, state, run, task);
-    with_past(state, run, task, depends_on_past, verdict)
+    let verdict = upstream_verdict(plan, state, run, task);
+    verdict_with_past(state, run, task, depends_on_past, verdict)
 }
 
 /// Whether a task goes on to its expansion by this verdict.
-pub(crate) fn goes_on(dag: &Dag, task: u32, verdict: Verdict) -> bool
+pub(crate) fn goes_on_to_expansion(dag: &Dag, task: u32, verdict: Verdict) -> bool
     requires { task < length dag.now.tasks }
     ensures { result ≡ (is_some (task_of dag.now task).expand && is_run verdict) }
 {
@@ -119,7 +124,13 @@ pub(crate) fn goes_on(dag: &Dag, task: u32, verdict: Verdict) -> bool
 }
 
 /// Whether what is decided of a task by this verdict is to wait.
-pub(crate) fn awaits(dag: &Dag, state: &State, run: u32, task: u32, verdict: Verdict) -> bool
+pub(crate) fn decides_to_wait(
+    dag: &Dag,
+    state: &State,
+    run: u32,
+    task: u32,
+    verdict: Verdict,
+) -> bool
     requires { task < length dag.now.tasks }
     ensures { IsTrue result ↔ (after_verdict dag.now (λ u. seen_in (cell_at state.now run u)) task
         verdict ≡ Decision.Wait) }
@@ -135,7 +146,7 @@ pub(crate) fn awaits(dag: &Dag, state: &State, run: u32, task: u32, verdict: Ver
 }
 
 /// What is decided of a task by this verdict of upstreams and past.
-pub(crate) fn decide(
+pub(crate) fn decision_after_verdict(
     alloc: Global,
     dag: &Dag,
     state: &State,
@@ -153,6 +164,6 @@ pub(crate) fn decide(
         Verdict::Blocked => Ok(Decision::Blocked),
         Verdict::Skip => Ok(Decision::Skipped),
         Verdict::UpstreamFailed => Ok(Decision::UpstreamFailed),
-        Verdict::Run => instances(alloc, dag, state, run, dag.task(task)),
+        Verdict::Run => decide_instances(alloc, dag, state, run, dag.task(task)),
     }
 }

@@ -137,11 +137,11 @@ fn fails_its_run(plan: &Plan, task: u32, cell: &Cell) -> bool
         Cell::Undecided | Cell::Blocked => true,
         Cell::Skipped => false,
         Cell::UpstreamFailed => is_leaf(plan, task),
-        Cell::Ran(instances) => ran_fails(plan, task, instances.as_slice()),
+        Cell::Ran(instances) => instances_fail_run(plan, task, instances.as_slice()),
     }
 }
 
-fn ran_fails(plan: &Plan, task: u32, instances: &[Instance]) -> bool
+fn instances_fail_run(plan: &Plan, task: u32, instances: &[Instance]) -> bool
     requires { task < length plan.now.dag.tasks }
     ensures { result ≡ instances_fail (is_leaf_in plan.now.dag task) instances.now }
 {

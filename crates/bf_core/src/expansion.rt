@@ -95,7 +95,7 @@ fn items_from(
 }
 
 /// One instance, which is given what was pulled.
-fn unmapped(alloc: Global, pulled: Vec<Pulled>) -> Result<Decision, OutOfMemory>
+fn single_instance(alloc: Global, pulled: Vec<Pulled>) -> Result<Decision, OutOfMemory>
     ensures { IfOk result (λ d. d ≡ Decision.Instances
         (record { item = None; pulled = pulled.items } ∷ [])) }
 {
@@ -138,7 +138,11 @@ fn givens_of(
 }
 
 /// What the items of a source make of a task that goes on.
-fn expanded(alloc: Global, items: Items, pulled: Vec<Pulled>) -> Result<Decision, OutOfMemory>
+fn instances_of_items(
+    alloc: Global,
+    items: Items,
+    pulled: Vec<Pulled>,
+) -> Result<Decision, OutOfMemory>
     ensures { IfOk result (λ d. d ≡ mapped pulled.items items) }
 {
     match items {
@@ -154,7 +158,7 @@ fn expanded(alloc: Global, items: Items, pulled: Vec<Pulled>) -> Result<Decision
 
 /// The instances of a task that goes on: of one that is expanded one for each item, and it waits while its source is
 /// not settled; of any other a single one.
-pub(crate) fn instances(
+pub(crate) fn decide_instances(
     alloc: Global,
     dag: &Dag,
     state: &State,
@@ -168,12 +172,12 @@ pub(crate) fn instances(
 {
     let Some(source) = task.expand else {
         let pulled = pull_all(alloc, dag, state, run, task.pulls.as_slice())?;
-        return unmapped(alloc, pulled);
+        return single_instance(alloc, pulled);
     };
     match items_from(alloc, dag, state, run, source)? {
         Some(items) => {
             let pulled = pull_all(alloc, dag, state, run, task.pulls.as_slice())?;
-            expanded(alloc, items, pulled)
+            instances_of_items(alloc, items, pulled)
         }
         None => Ok(Decision::Wait),
     }

@@ -7,9 +7,11 @@ ghost use Rattle.bf_core.specs.Terms.{Phase};
 ghost use Rattle.bf_core.specs.Checks.{HasRows, RefusedFor};
 
 use crate::clock::{Clock, Moments, Retry, note_end};
-use crate::decision::{Decision, decide, gate, goes_on, undecided};
+use crate::decision::{
+    Decision, decision_after_verdict, goes_on_to_expansion, refuse_unless_undecided, task_verdict,
+};
 use crate::event::{Event, Illegal};
-use crate::names::{Unfinished, next_try, place_of, required};
+use crate::names::{Unfinished, next_try, place_of, require_unfinished_instance};
 use crate::state::{Change, RunPhase, State, is_closable, is_retried, unopened_runs};
 use bf_plan::{Dag, Demand, Plan};
 use bf_pool::{NoRoom, Pools};
@@ -166,18 +168,18 @@ impl<'a> Core<'a> {
     }
 
     /// What is decided of a task now, which goes on to its expansion or does not, as is asked.
-    fn decided(&self, run: u32, task: u32, expands: bool) -> Result<Decision, Illegal>
+    fn decision_now(&self, run: u32, task: u32, expands: bool) -> Result<Decision, Illegal>
         ensures ok { IfOk result (λ d. MayCome self.now (deciding expands run task)
             × (d ≡ decision_in self.now.dag self.now.state run task)) }
         ensures err { IfErr result (IsRefusal self.now (deciding expands run task)) }
     {
         let dag = self.plan.dag();
-        undecided(dag, &self.state, run, task)?;
-        let verdict = gate(self.plan, &self.state, run, task);
-        if goes_on(dag, task, verdict) != expands {
+        refuse_unless_undecided(dag, &self.state, run, task)?;
+        let verdict = task_verdict(self.plan, &self.state, run, task);
+        if goes_on_to_expansion(dag, task, verdict) != expands {
             return Err(Illegal::NotEnabled);
         }
-        let decision = decide(self.alloc, dag, &self.state, run, task, verdict)?;
+        let decision = decision_after_verdict(self.alloc, dag, &self.state, run, task, verdict)?;
         if decision.waits() {
             return Err(Illegal::NotEnabled);
         }
@@ -190,10 +192,10 @@ impl<'a> Core<'a> {
         ensures err { IfErr result (IsRefusal self.old (deciding expands run task)) }
         ensures same { OnErr result (self.new ≡ self.old) }
     {
-        let decision = self.decided(run, task, expands)?;
+        let decision = self.decision_now(run, task, expands)?;
         let cell = decision.into_cell(self.alloc)?;
         self.journal.reserve(1)?;
-        let _ = self.state.put(run, task, cell);
+        let _ = self.state.replace_cell(run, task, cell);
         self.journal
             .push_reserved(Event::deciding(expands, run, task));
         Ok(())
@@ -204,7 +206,7 @@ impl<'a> Core<'a> {
         ensures ok { IfOk result (IsBeginning self.now name) }
         ensures err { IfErr result (IsRefusal self.now (Event.Begin name)) }
     {
-        required(self.plan.dag(), &self.state, name, Unfinished::Waiting)?;
+        require_unfinished_instance(self.plan.dag(), &self.state, name, Unfinished::Waiting)?;
         if !self.clock.lets_begin(name) {
             return Err(Illegal::NotEnabled);
         }
@@ -223,7 +225,8 @@ impl<'a> Core<'a> {
             Err(NoRoom) => Err(Illegal::NoRoom),
             Ok(()) => {
                 let place = place_of(self.plan.dag(), name) as usize;
-                self.state.change(name.run, name.task, place, Change::Begin);
+                self.state
+                    .change_instance_at(name.run, name.task, place, Change::Begin);
                 self.clock.moments.forget(name);
                 self.journal.push_reserved(Event::Begin(name));
                 Ok(())
@@ -245,15 +248,20 @@ impl<'a> Core<'a> {
     }
 
     /// What the end of a try notes, keeps and gives back; refused where the try does not run or could not end so.
-    fn ending(&self, name: JobName, outcome: &Outcome) -> Result<Ending, Illegal>
+    fn prepare_end(&self, name: JobName, outcome: &Outcome) -> Result<Ending, Illegal>
         ensures ok { IfOk result (IsEnding self.now name outcome.now) }
         ensures err { IfErr result (IsRefusal self.now (Event.End name outcome.now)) }
     {
-        let instance = required(self.plan.dag(), &self.state, name, Unfinished::Running)?;
+        let instance = require_unfinished_instance(
+            self.plan.dag(),
+            &self.state,
+            name,
+            Unfinished::Running,
+        )?;
         if !fits(self.plan, name.task, outcome) {
             return Err(Illegal::NotEnabled);
         }
-        let (entry, kept) = noted(self.alloc, &instance.given, outcome)?;
+        let (entry, kept) = entry_and_kept_outcome(self.alloc, &instance.given, outcome)?;
         Ok(Ending {
             entry,
             kept,
@@ -277,14 +285,15 @@ impl<'a> Core<'a> {
             retries,
             place,
             retry,
-        } = self.ending(name, &outcome)?;
+        } = self.prepare_end(name, &outcome)?;
         self.journal.reserve(1)?;
         note_end(&mut self.clock, &mut self.state.ledger, name, entry, retry)?;
         let change = Change::End {
             retries,
             outcome: kept,
         };
-        self.state.change(name.run, name.task, place, change);
+        self.state
+            .change_instance_at(name.run, name.task, place, change);
         self.pools.give_back(demand.pool, demand.slots);
         self.journal.push_reserved(Event::End(name, outcome));
         Ok(())
@@ -296,7 +305,7 @@ impl<'a> Core<'a> {
         ensures err { IfErr result (IsRefusal self.old (Event.Close run)) }
         ensures same { OnErr result (self.new ≡ self.old) }
     {
-        closable(self.plan.dag(), &self.state, run)?;
+        refuse_unless_closable(self.plan.dag(), &self.state, run)?;
         self.journal.reserve(1)?;
         self.state.set_phase(run, RunPhase::Closed);
         self.active_runs -= 1;
@@ -331,7 +340,11 @@ struct Ending {
 }
 
 /// The entry of a try that was given this and ends so, and the outcome that its instance keeps.
-fn noted(alloc: Global, given: &Given, outcome: &Outcome) -> Result<(Entry, Outcome), OutOfMemory>
+fn entry_and_kept_outcome(
+    alloc: Global,
+    given: &Given,
+    outcome: &Outcome,
+) -> Result<(Entry, Outcome), OutOfMemory>
     ensures entry { IfOk result (λ both. both.0
         ≡ record { given = given.now; outcome = outcome.now }) }
     ensures kept { IfOk result (λ both. both.1 ≡ outcome.now) }
@@ -344,7 +357,7 @@ fn noted(alloc: Global, given: &Given, outcome: &Outcome) -> Result<(Entry, Outc
 }
 
 /// Refuses a run that is not open, and one with a task that is not settled.
-fn closable(dag: &Dag, state: &State, run: u32) -> Result<(), Illegal>
+fn refuse_unless_closable(dag: &Dag, state: &State, run: u32) -> Result<(), Illegal>
     requires { HasRows dag.now state.now }
     ensures ok { OnOk result ((run < length state.now.runs)
         × (phase_of state.now run ≡ RunPhase.Open) × AllSettled dag.now state.now run) }

@@ -87,7 +87,7 @@ pub(crate) fn instance_at(state: &State, run: u32, task: u32, place: usize) -> O
 }
 
 /// The instance of a name, where the task has one of that index now.
-fn named<'a>(dag: &Dag, state: &'a State, name: JobName) -> Option<&'a Instance>
+fn instance_named<'a>(dag: &Dag, state: &'a State, name: JobName) -> Option<&'a Instance>
     ensures some { IfSome result (λ x. IsOfName dag.now state.entry.now name x.now) }
     ensures none { IfNone result ((x : Instance) → IsOfName dag.now state.entry.now name x
         → ⊥) }
@@ -101,12 +101,12 @@ fn named<'a>(dag: &Dag, state: &'a State, name: JobName) -> Option<&'a Instance>
 }
 
 /// The instance of a name, where it has come to that try.
-fn known<'a>(dag: &Dag, state: &'a State, name: JobName) -> Option<&'a Instance>
+fn instance_known_as<'a>(dag: &Dag, state: &'a State, name: JobName) -> Option<&'a Instance>
     ensures some { IfSome result (λ x. IsKnownAs dag.now state.entry.now name x.now) }
     ensures none { IfNone result ((x : Instance) → IsKnownAs dag.now state.entry.now name x
         → ⊥) }
 {
-    let instance = named(dag, state, name)?;
+    let instance = instance_named(dag, state, name)?;
     if 1 <= name.attempt && name.attempt <= instance.attempt {
         Some(instance)
     } else {
@@ -133,7 +133,7 @@ fn is_as_asked(instance: &Instance, attempt: u32, asked: Unfinished) -> bool
 }
 
 /// The instance of a try that waits or runs, as is asked.
-pub(crate) fn present<'a>(
+pub(crate) fn unfinished_instance<'a>(
     dag: &Dag,
     state: &'a State,
     name: JobName,
@@ -144,7 +144,7 @@ pub(crate) fn present<'a>(
         (place_in dag.now name) ≡ Some x.now) }
     ensures none { IfNone result (¬ (IsPresent dag.now state.entry.now name (asked_phase asked))) }
 {
-    let instance = named(dag, state, name)?;
+    let instance = instance_named(dag, state, name)?;
     if is_as_asked(instance, name.attempt, asked) {
         Some(instance)
     } else {
@@ -153,7 +153,7 @@ pub(crate) fn present<'a>(
 }
 
 /// The instance of a try, which is refused where it doesn't wait or run, as is asked.
-pub(crate) fn required<'a>(
+pub(crate) fn require_unfinished_instance<'a>(
     dag: &Dag,
     state: &'a State,
     name: JobName,
@@ -166,7 +166,7 @@ pub(crate) fn required<'a>(
     ensures err { IfErr result (RefusedFor (IsKnown dag.now state.entry.now name)
         (IsPresent dag.now state.entry.now name (asked_phase asked))) }
 {
-    match known(dag, state, name) {
+    match instance_known_as(dag, state, name) {
         None => Err(Illegal::Stranger),
         Some(instance) => {
             if is_as_asked(instance, name.attempt, asked) {

@@ -5,14 +5,14 @@ ghost use Rattle.bf_core.specs.Events.{value_in, cell_at, before_in};
 ghost use Rattle.bf_core.specs.Deciding.{past_ruling, past_after};
 ghost use Rattle.bf_core.specs.Words.{passed, ran_ruling};
 
-use crate::expansion::instances;
+use crate::expansion::decide_instances;
 use crate::state::{Cell, Instance, Phase, State, are_finished};
 use bf_rule::Verdict;
 use bf_try::Outcome;
 
 impl Phase {
     /// Finished, and not as failed.
-    fn passed(&self) -> bool
+    fn has_passed(&self) -> bool
         ensures { result ≡ passed self.now }
     {
         match self {
@@ -25,10 +25,10 @@ impl Phase {
 fn have_passed(instances: &[Instance]) -> bool
     ensures { result ≡ list_all (λ x. passed x.phase) instances.now }
 {
-    instances.iter().all(|instance| instance.phase.passed())
+    instances.iter().all(|instance| instance.phase.has_passed())
 }
 
-fn ran_verdict(instances: &[Instance]) -> Verdict
+fn past_verdict_of_instances(instances: &[Instance]) -> Verdict
     ensures { result ≡ ran_ruling instances.now }
 {
     if !are_finished(instances) {
@@ -50,7 +50,7 @@ impl Cell {
             Cell::Undecided => Verdict::Wait,
             Cell::Blocked | Cell::UpstreamFailed => Verdict::Blocked,
             Cell::Skipped => Verdict::Run,
-            Cell::Ran(instances) => ran_verdict(instances.as_slice()),
+            Cell::Ran(instances) => past_verdict_of_instances(instances.as_slice()),
         }
     }
 }
@@ -66,7 +66,7 @@ fn past_verdict(state: &State, run: u32, task: u32) -> Verdict
 }
 
 /// What comes of a verdict on a task once its past is looked at.
-pub(crate) fn with_past(
+pub(crate) fn verdict_with_past(
     state: &State,
     run: u32,
     task: u32,

@@ -89,7 +89,7 @@ impl Cell {
 }
 
 /// What is pulled from a task in a run.
-fn pull(
+fn pull_in_run(
     alloc: Global,
     dag: &Dag,
     state: &State,
@@ -120,7 +120,7 @@ pub(crate) fn pull_all(
 {
     let mut values = Vec::with_capacity(alloc, sources.len())?;
     for source in sources {
-        let value = pull(alloc, dag, state, run, *source)?;
+        let value = pull_in_run(alloc, dag, state, run, *source)?;
         values.push(Pulled::new(alloc, value)?)?;
     }
     Ok(values)

@@ -171,7 +171,7 @@ impl Cell {
         }
     }
 
-    fn change(&mut self, place: usize, change: Change)
+    fn change_instance_at(&mut self, place: usize, change: Change)
         requires countable { IsCountable change }
         requires there { IsSome (instance_of self.old place) }
         ensures { self.new ≡ change_instance (changed change) self.old place }
@@ -286,7 +286,7 @@ impl State {
     }
 
     /// Puts a cell in the place of another, and hands that back.
-    pub(crate) fn put(&mut self, run: u32, task: u32, cell: Cell) -> Cell
+    pub(crate) fn replace_cell(&mut self, run: u32, task: u32, cell: Cell) -> Cell
         requires run { run < length self.old.runs }
         requires task { task < length (row_of self.old.runs run).cells }
         ensures was { result ≡ cell_at self.old run task }
@@ -306,7 +306,7 @@ impl State {
     }
 
     /// Changes an instance.
-    pub(crate) fn change(&mut self, run: u32, task: u32, place: usize, change: Change)
+    pub(crate) fn change_instance_at(&mut self, run: u32, task: u32, place: usize, change: Change)
         requires run { run < length self.old.runs }
         requires task { task < length (row_of self.old.runs run).cells }
         requires there { IsSome (instance_of (cell_at self.old run task) place) }
@@ -314,8 +314,8 @@ impl State {
         ensures { self.new ≡ put self.old run task
             (change_instance (changed change) (cell_at self.old run task) place) }
     {
-        let mut cell = self.put(run, task, Cell::Undecided);
-        cell.change(place, change);
-        let _ = self.put(run, task, cell);
+        let mut cell = self.replace_cell(run, task, Cell::Undecided);
+        cell.change_instance_at(place, change);
+        let _ = self.replace_cell(run, task, cell);
     }
 }

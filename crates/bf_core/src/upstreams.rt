@@ -2,7 +2,7 @@
 ghost use Rattle.std.specs.Prelude.{◌≡◌, ◌<◌, ◌≤◌, length, is_some};
 ghost use Rattle.std.specs.List.{list_all, list_any};
 ghost use Rattle.bf_rule.specs.Verdicts.{total_of};
-ghost use Rattle.bf_core.specs.Deciding.{branch_is, branch_skips, is_blocked_in, counts_over, lets_decide_in, ruling_of};
+ghost use Rattle.bf_core.specs.Deciding.{branch_is, branch_skips, is_blocked_in, counts_over, lets_decide_in, upstream_verdict_of};
 ghost use Rattle.bf_core.specs.Events.{cell_at, seen_in, counts_of_cell, value_in};
 ghost use Rattle.bf_core.specs.Few.{AreFew};
 ghost use Rattle.bf_core.specs.Words.{known_to_be, phase_skips_in, instances_skip_in};
@@ -54,7 +54,8 @@ fn lets_decide(dag: &Dag, state: &State, run: u32, task: &Task, upstream: u32) -
     ensures { result ≡ lets_decide_in dag.now task.now (λ u. seen_in (cell_at state.now run u))
         upstream }
 {
-    is_settled(state, run, upstream) || (!task.rule.waits() && !dag.is_branch(upstream))
+    is_settled(state, run, upstream)
+        || (!task.rule.waits_until_settled() && !dag.is_branch(upstream))
 }
 
 fn all_let_decide(dag: &Dag, state: &State, run: u32, task: &Task, upstreams: &[u32]) -> bool
@@ -94,7 +95,7 @@ fn instances_skip(plan: &Plan, branch: u32, task: u32, instances: &[Instance]) -
 impl Cell {
     /// Whether a branch that has this cell succeeded and does not follow a task.
     #[tactic(auto, using(crate::proofs::Branching::ran_skips))]
-    fn skips(&self, plan: &Plan, branch: u32, task: u32) -> bool
+    fn skips_task(&self, plan: &Plan, branch: u32, task: u32) -> bool
         requires { task < length plan.now.dag.tasks }
         ensures { result ≡ known_to_be (branch_skips plan.now.dag task branch) (value_in self.now) }
     {
@@ -122,7 +123,7 @@ fn branch_skips_task(plan: &Plan, state: &State, run: u32, upstream: u32, task: 
         (value_in (cell_at state.now run upstream)) }
 {
     match state.cell(run, upstream) {
-        Some(cell) => plan.dag().is_branch(upstream) && cell.skips(plan, upstream, task),
+        Some(cell) => plan.dag().is_branch(upstream) && cell.skips_task(plan, upstream, task),
         None => false,
     }
 }
@@ -138,7 +139,7 @@ fn branch_is_blocked(dag: &Dag, state: &State, run: u32, upstream: u32) -> bool
     }
 }
 
-fn any_skips(plan: &Plan, state: &State, run: u32, task: u32, upstreams: &[u32]) -> bool
+fn any_branch_skips(plan: &Plan, state: &State, run: u32, task: u32, upstreams: &[u32]) -> bool
     requires { task < length plan.now.dag.tasks }
     ensures { result ≡ list_any (λ u. branch_is plan.now.dag (branch_skips plan.now.dag task u) u
         (value_in (cell_at state.now run u))) upstreams.now }
@@ -146,7 +147,7 @@ fn any_skips(plan: &Plan, state: &State, run: u32, task: u32, upstreams: &[u32])
     upstreams.iter().any(|upstream| branch_skips_task(plan, state, run, *upstream, task))
 }
 
-fn any_blocks(dag: &Dag, state: &State, run: u32, upstreams: &[u32]) -> bool
+fn any_branch_is_blocked(dag: &Dag, state: &State, run: u32, upstreams: &[u32]) -> bool
     ensures { result ≡ list_any (λ u. branch_is dag.now is_blocked_in u
         (value_in (cell_at state.now run u))) upstreams.now }
 {
@@ -157,19 +158,19 @@ fn any_blocks(dag: &Dag, state: &State, run: u32, upstreams: &[u32]) -> bool
 
 /// What the upstreams of a task say of it: a branch that does not follow it skips it, and a branch that is blocked
 /// blocks it; else its rule decides. A task waits for its branches whatever its rule.
-pub(crate) fn ruling(plan: &Plan, state: &State, run: u32, task: u32) -> Verdict
+pub(crate) fn upstream_verdict(plan: &Plan, state: &State, run: u32, task: u32) -> Verdict
     requires task { task < length plan.now.dag.tasks }
     requires few { AreFew state.now }
-    ensures { result ≡ ruling_of plan.now.dag (λ u. seen_in (cell_at state.now run u)) task }
+    ensures { result ≡ upstream_verdict_of plan.now.dag (λ u. seen_in (cell_at state.now run u)) task }
 {
     let dag = plan.dag();
     let decided = dag.task(task);
     let upstreams = decided.upstreams.as_slice();
     if !all_let_decide(dag, state, run, decided, upstreams) {
         Verdict::Wait
-    } else if any_skips(plan, state, run, task, upstreams) {
+    } else if any_branch_skips(plan, state, run, task, upstreams) {
         Verdict::Skip
-    } else if any_blocks(dag, state, run, upstreams) {
+    } else if any_branch_is_blocked(dag, state, run, upstreams) {
         Verdict::Blocked
     } else {
         let counts = counts_of_upstreams(state, run, upstreams);

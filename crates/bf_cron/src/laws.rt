@@ -12,13 +12,13 @@ ghost use Rattle.bf_cron.specs.declared.field.Field.{Field};
 ghost use Rattle.bf_cron.specs.declared.item.Item.{Item};
 
 /// A text is read as an item exactly where it is written as that item.
-pub fn item_form()
+pub fn items_are_read_as_written()
     ensures { (f : Field) (text : List ℕ) (i : Item) → (item_of f text ≡ Some i)
         ↔ IsItemText f text i }
 {}
 
 /// A text is read as a schedule exactly where it is written as that schedule.
-pub fn schedule_form()
+pub fn schedules_are_read_as_written()
     ensures { (text : List ℕ) (s : Schedule) → (schedule_of text ≡ Some s) ↔ IsScheduleText text s }
 {}
 

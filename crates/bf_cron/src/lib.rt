@@ -24,7 +24,7 @@ mod spec;
 
 pub use field::Field;
 pub use item::Item;
-pub use laws::{fires_in_each_leap_year, item_form, schedule_form};
+pub use laws::{fires_in_each_leap_year, items_are_read_as_written, schedules_are_read_as_written};
 pub use matching::{Matches, Scheduled};
 pub use minutes::{DATES, date_of, minute_of};
 pub use spec::{CronFault, CronSpec};

@@ -8,7 +8,7 @@ use crate::spec::{CronFault, CronSpec};
 use jiff::civil::{Date, DateTime};
 use std::alloc::Global;
 
-fn has(word: u64, number: u8) -> bool
+fn is_bit_set(word: u64, number: u8) -> bool
     requires { number < 64 }
     ensures { result ≡ has_number word number }
 {
@@ -54,27 +54,27 @@ impl CronSpec {
     pub fn read(alloc: Global, text: &str) -> Result<CronSpec, CronFault>
         ensures { IsRead (schedule_of text.now) result }
     {
-        let text = reading::expanded(text);
-        let fields = reading::fields(alloc, text.as_bytes())?;
+        let text = reading::expand_preset(text);
+        let fields = reading::split_fields(alloc, text.as_bytes())?;
         let [minute, hour, day, month, weekday] = fields.as_slice() else {
             return Err(CronFault::Bad);
         };
-        reading::spec(minute, hour, day, month, weekday).ok_or(CronFault::Bad)
+        reading::spec_of_fields(minute, hour, day, month, weekday).ok_or(CronFault::Bad)
     }
 
     fn has_weekday(&self, weekday: u8) -> bool
         requires { weekday < 7 }
         ensures { result ≡ spec_on_weekday self.now weekday }
     {
-        has(self.weekdays, weekday) || weekday == 0 && has(self.weekdays, 7)
+        is_bit_set(self.weekdays, weekday) || weekday == 0 && is_bit_set(self.weekdays, 7)
     }
 
-    fn has_day(&self, day: u8, weekday: u8) -> bool
+    fn has_day_with_weekday(&self, day: u8, weekday: u8) -> bool
         requires day { day < 32 }
         requires weekday { weekday < 7 }
         ensures { result ≡ spec_on_day self.now day weekday }
     {
-        let (on_day, on_weekday) = (has(self.days, day), self.has_weekday(weekday));
+        let (on_day, on_weekday) = (is_bit_set(self.days, day), self.has_weekday(weekday));
         if !self.any_day && !self.any_weekday {
             on_day || on_weekday
         } else {
@@ -87,7 +87,7 @@ impl CronSpec {
         requires { hour < 24 }
         ensures { result ≡ has_number self.now.hours hour }
     {
-        has(self.hours, hour)
+        is_bit_set(self.hours, hour)
     }
 
     /// Whether the schedule has the minute of an hour.
@@ -95,7 +95,7 @@ impl CronSpec {
         requires { minute < 60 }
         ensures { result ≡ has_number self.now.minutes minute }
     {
-        has(self.minutes, minute)
+        is_bit_set(self.minutes, minute)
     }
 }
 
@@ -134,28 +134,28 @@ pub trait Matches: Scheduled {
 
 impl<S: Scheduled> Matches for S {
     fn has_date(&self, date: Date) -> bool {
-        is_on_date(self.schedule(), date)
+        schedule_has_date(self.schedule(), date)
     }
 
     fn matches(&self, at: DateTime) -> bool {
-        is_at(self.schedule(), at)
+        schedule_matches(self.schedule(), at)
     }
 }
 
-fn is_on_date(spec: &CronSpec, date: Date) -> bool
+fn schedule_has_date(spec: &CronSpec, date: Date) -> bool
     ensures { result ≡ spec_has_date spec.now date }
 {
-    if !has(spec.months, month_number(date)) {
+    if !is_bit_set(spec.months, month_number(date)) {
         return false;
     }
-    spec.has_day(day_number(date), weekday_number(date))
+    spec.has_day_with_weekday(day_number(date), weekday_number(date))
 }
 
-fn is_at(spec: &CronSpec, at: DateTime) -> bool
+fn schedule_matches(spec: &CronSpec, at: DateTime) -> bool
     ensures value { result ≡ spec_matches spec.now at }
     ensures rule { (s : Schedule) → Keeps spec.now s → spec_matches spec.now at ≡ matches s at }
 {
     spec.has_minute(minute_number(at))
         && spec.has_hour(hour_number(at))
-        && is_on_date(spec, at.date())
+        && schedule_has_date(spec, at.date())
 }

@@ -18,7 +18,7 @@ fn digit_of(byte: u8) -> Option<u8>
 }
 
 /// A number of one or two digits.
-fn small(text: &[u8]) -> Option<u8>
+fn small_number_in(text: &[u8]) -> Option<u8>
     ensures { result ≡ small_number text.now }
 {
     match text {
@@ -29,7 +29,7 @@ fn small(text: &[u8]) -> Option<u8>
 }
 
 /// The name in lower case.
-fn lower(text: &[u8]) -> [u8; 3]
+fn lower_case_of(text: &[u8]) -> [u8; 3]
     requires { length text.now ≡ 3 }
     ensures { result ≡ map to_ascii_lowercase text.now }
 {
@@ -41,7 +41,7 @@ fn lower(text: &[u8]) -> [u8; 3]
 }
 
 /// January is 1.
-fn month(name: [u8; 3]) -> Option<u8>
+fn month_named(name: [u8; 3]) -> Option<u8>
     ensures value { result ≡ option_map (λ i. i + 1)
         (position (λ known. bytes_eq known name) (names Month)) }
     ensures small { IfSome result (λ n. n < 60) }
@@ -64,7 +64,7 @@ fn month(name: [u8; 3]) -> Option<u8>
 }
 
 /// Sunday is 0.
-fn weekday(name: [u8; 3]) -> Option<u8>
+fn weekday_named(name: [u8; 3]) -> Option<u8>
     ensures value { result ≡ option_map (λ i. i + 0)
         (position (λ known. bytes_eq known name) (names Weekday)) }
     ensures small { IfSome result (λ n. n < 60) }
@@ -82,19 +82,19 @@ fn weekday(name: [u8; 3]) -> Option<u8>
 }
 
 /// What a number or a name stands for, if the field has it.
-pub(crate) fn number(field: Field, text: &[u8]) -> Option<u8>
+pub(crate) fn read_number(field: Field, text: &[u8]) -> Option<u8>
     ensures value { result ≡ number_of field text.now }
     ensures small { IfSome result (λ n. n < 60) }
 {
     if text.len() == 3 {
-        let name = lower(text);
+        let name = lower_case_of(text);
         return match field {
-            Field::Month => month(name),
-            Field::Weekday => weekday(name),
+            Field::Month => month_named(name),
+            Field::Weekday => weekday_named(name),
             _ => None,
         };
     }
-    let value = small(text)?;
+    let value = small_number_in(text)?;
     if (field.least()..=field.greatest()).contains(&value) {
         Some(value)
     } else {
@@ -103,14 +103,14 @@ pub(crate) fn number(field: Field, text: &[u8]) -> Option<u8>
 }
 
 /// A step, which is 1 where none is written.
-pub(crate) fn step(text: Option<&[u8]>) -> Option<u8>
+pub(crate) fn read_step(text: Option<&[u8]>) -> Option<u8>
     ensures value { result ≡ step_of (option_map (λ s. s.now) text.entry) }
     ensures above { IfSome result (λ n. 0 < n) }
 {
     let Some(text) = text else {
         return Some(1);
     };
-    match small(text) {
+    match small_number_in(text) {
         Some(value) if (1..=59).contains(&value) => Some(value),
         _ => None,
     }

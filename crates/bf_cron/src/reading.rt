@@ -11,41 +11,41 @@ use crate::spec::CronSpec;
 use std::alloc::{AllocError, Global};
 
 /// Where the first such byte stands.
-fn place(text: &[u8], at: u8) -> Option<usize>
+fn position_of_byte(text: &[u8], at: u8) -> Option<usize>
     ensures { result ≡ position (λ b. b == at) text.now }
 {
     text.iter().position(|b| *b == at)
 }
 
 /// What stands before the first such byte, and what stands after it.
-fn cut(text: &[u8], at: u8) -> (&[u8], Option<&[u8]>)
+fn split_at_byte(text: &[u8], at: u8) -> (&[u8], Option<&[u8]>)
     ensures before { result.0.now ≡ before_first (λ b. b == at) text.now }
     ensures rest { option_map (λ s. s.now) result.1 ≡ after at text.now }
 {
-    match place(text, at) {
+    match position_of_byte(text, at) {
         Some(i) => (&text[..i], Some(&text[i + 1..])),
         None => (text, None),
     }
 }
 
 /// One item of a field.
-fn item(field: Field, text: &[u8]) -> Option<Item>
+fn read_item(field: Field, text: &[u8]) -> Option<Item>
     ensures value { result ≡ item_of field text.now }
     ensures item { IfSome result IsItem }
 {
-    let (base, step) = cut(text, b'/');
+    let (base, step) = split_at_byte(text, b'/');
     if base == b"*".as_slice() {
-        let step = numbers::step(step)?;
+        let step = numbers::read_step(step)?;
         return Some(Item {
             low: field.least(),
             high: field.greatest(),
             step,
         });
     }
-    let (first, last) = cut(base, b'-');
+    let (first, last) = split_at_byte(base, b'-');
     match (last, step) {
         (None, None) => {
-            let low = numbers::number(field, first)?;
+            let low = numbers::read_number(field, first)?;
             Some(Item {
                 low,
                 high: low,
@@ -54,9 +54,9 @@ fn item(field: Field, text: &[u8]) -> Option<Item>
         }
         (None, Some(_)) => None,
         (Some(last), step) => {
-            let low = numbers::number(field, first)?;
-            let high = numbers::number(field, last)?;
-            let step = numbers::step(step)?;
+            let low = numbers::read_number(field, first)?;
+            let high = numbers::read_number(field, last)?;
+            let step = numbers::read_step(step)?;
             if low <= high {
                 Some(Item { low, high, step })
             } else {
@@ -81,18 +81,18 @@ fn with_numbers(item: Item, word: u64) -> u64
 }
 
 /// The word of a field, whose bits are the numbers of its items.
-fn field(field: Field, text: &[u8]) -> Option<u64>
+fn read_field(field: Field, text: &[u8]) -> Option<u64>
     ensures { IsField (field_of field text.now) result }
 {
     let mut word = 0;
     for part in text.split(|b| *b == b',') {
-        word = with_numbers(item(field, part)?, word);
+        word = with_numbers(read_item(field, part)?, word);
     }
     Some(word)
 }
 
 /// The parts of a text between spaces and tabs.
-pub(crate) fn fields(alloc: Global, text: &[u8]) -> Result<Vec<&[u8]>, AllocError>
+pub(crate) fn split_fields(alloc: Global, text: &[u8]) -> Result<Vec<&[u8]>, AllocError>
     ensures { IfOk result (λ v. map (λ s. s.now) v.items ≡ fields_of text.now) }
 {
     text.split(|b| *b == b' ' || *b == b'\t')
@@ -101,7 +101,7 @@ pub(crate) fn fields(alloc: Global, text: &[u8]) -> Result<Vec<&[u8]>, AllocErro
 }
 
 /// The five fields that a preset stands for (Airflow's "Cron Presets"), or the text itself.
-pub(crate) fn expanded(text: &str) -> &str
+pub(crate) fn expand_preset(text: &str) -> &str
     ensures { result.now ≡ preset text.now }
 {
     match text {
@@ -116,7 +116,7 @@ pub(crate) fn expanded(text: &str) -> &str
 }
 
 /// The schedule of five fields.
-pub(crate) fn spec(
+pub(crate) fn spec_of_fields(
     minute: &[u8],
     hour: &[u8],
     day: &[u8],
@@ -127,11 +127,11 @@ pub(crate) fn spec(
         ∷ [])) result }
 {
     Some(CronSpec {
-        minutes: field(Field::Minute, minute)?,
-        hours: field(Field::Hour, hour)?,
-        days: field(Field::Day, day)?,
-        months: field(Field::Month, month)?,
-        weekdays: field(Field::Weekday, weekday)?,
+        minutes: read_field(Field::Minute, minute)?,
+        hours: read_field(Field::Hour, hour)?,
+        days: read_field(Field::Day, day)?,
+        months: read_field(Field::Month, month)?,
+        weekdays: read_field(Field::Weekday, weekday)?,
         any_day: day == b"*".as_slice(),
         any_weekday: weekday == b"*".as_slice(),
     })

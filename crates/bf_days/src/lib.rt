@@ -13,5 +13,5 @@ mod listing;
 mod shown;
 
 pub use days::Days;
-pub use laws::one_listing;
+pub use laws::listing_is_unique;
 pub use listing::intervals_on;

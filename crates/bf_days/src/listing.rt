@@ -7,7 +7,7 @@ ghost use Rattle.bf_days.specs.Days.{IsDayInYears};
 ghost use Rattle.bf_days.specs.Listing.{are_on, AreIntervalsBetween, IsAnswerOn, IsKeptFault, IsAddFault};
 
 use crate::days::Days;
-use crate::shown::is_on;
+use crate::shown::is_clock_on_days;
 use bf_cron::CronSpec;
 use bf_interval::{Interval, IntervalFault, MOST_RUNS, intervals};
 use jiff::Timestamp;
@@ -35,19 +35,23 @@ struct Search<'a, 'z> {
 }
 
 /// The moment of a nanosecond since 1970.
-fn moment(nanosecond: u64) -> Timestamp
+fn moment_of_nanosecond(nanosecond: u64) -> Timestamp
     requires { nanosecond < 7_258_118_399_000_000_001 }
     ensures { result.nanosecond ≡ pos nanosecond }
 {
-    let Ok(moment) = Timestamp::from_nanosecond(i128::from(nanosecond)) else {
+    let Ok(moment_of_nanosecond) = Timestamp::from_nanosecond(i128::from(nanosecond)) else {
         unreachable!();
     };
-    moment
+    moment_of_nanosecond
 }
 
 impl Search<'_, '_> {
     /// Adds those of the data intervals that start on the days.
-    fn keep(self, found: &mut Vec<Interval>, listed: &[Interval]) -> Result<(), IntervalFault>
+    fn push_those_on_days(
+        self,
+        found: &mut Vec<Interval>,
+        listed: &[Interval],
+    ) -> Result<(), IntervalFault>
         requires { length found.old.items ≤ 4_096 }
         ensures ok { OnOk result (found.new.items
             ≡ found.old.items
@@ -58,7 +62,7 @@ impl Search<'_, '_> {
             (plain_zone self.entry.zone.now) self.entry.days) found.old.items listed.now) }
     {
         for interval in listed {
-            if is_on(self.zone, self.days, interval.start) {
+            if is_clock_on_days(self.zone, self.days, interval.start) {
                 if found.len() == MOST_RUNS {
                     return Err(IntervalFault::TooManyRuns);
                 }
@@ -70,7 +74,7 @@ impl Search<'_, '_> {
 
     /// Adds the data intervals that start on the days, from one nanosecond on and before another. Where more start between these
     /// than can be listed at once, on the days or not, they are halved.
-    fn add(
+    fn push_intervals_between(
         self,
         alloc: Global,
         found: &mut Vec<Interval>,
@@ -92,16 +96,22 @@ impl Search<'_, '_> {
             → IsAddFault self.entry.spec.now
             (plain_zone self.entry.zone.now) self.entry.days fault) }
     {
-        let fault = match intervals(alloc, self.spec, self.zone, moment(from), moment(to - 1)) {
-            Ok(listed) => return self.keep(found, listed.as_slice()),
+        let fault = match intervals(
+            alloc,
+            self.spec,
+            self.zone,
+            moment_of_nanosecond(from),
+            moment_of_nanosecond(to - 1),
+        ) {
+            Ok(listed) => return self.push_those_on_days(found, listed.as_slice()),
             Err(fault) => fault,
         };
         if fault != IntervalFault::TooManyRuns {
             return Err(fault);
         }
         let middle = from + (to - from) / 2;
-        self.add(alloc, found, from, middle)?;
-        self.add(alloc, found, middle, to)
+        self.push_intervals_between(alloc, found, from, middle)?;
+        self.push_intervals_between(alloc, found, middle, to)
     }
 }
 
@@ -134,6 +144,6 @@ pub fn intervals_on(
     let to = ((days.last as u64 + 1) * DAY + GREATEST_OFFSET).min(END_OF_YEARS);
     let mut found = Vec::new(alloc);
     let search = Search { spec, zone, days };
-    search.add(alloc, &mut found, from, to)?;
+    search.push_intervals_between(alloc, &mut found, from, to)?;
     Ok(found)
 }

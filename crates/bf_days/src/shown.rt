@@ -19,7 +19,7 @@ fn day_shown(zone: &TimeZone<'_>, at: Timestamp) -> i128
 }
 
 /// Whether a clock of the zone shows one of the days.
-pub(crate) fn is_on(zone: &TimeZone<'_>, days: Days, at: Timestamp) -> bool
+pub(crate) fn is_clock_on_days(zone: &TimeZone<'_>, days: Days, at: Timestamp) -> bool
     ensures { result ≡ is_on_day (plain_zone zone.now) days at.nanosecond }
 {
     let day = day_shown(zone, at);

@@ -8,7 +8,7 @@ use Rattle.std.proofs.lemmas.Map.Views.{Contains-from_any, list_any-from_Contain
 use Rattle.bf_graph.specs.Reach.{is_marked_in, row_at}
 use Rattle.bf_plan.specs.declared.plan.Dag.{Dag}
 use Rattle.bf_dependents.specs.declared.place.Place.{Place}
-use Rattle.bf_dependents.specs.Dependents.{has_in, has_seed_in, AreDependents, Following, IsDependent}
+use Rattle.bf_dependents.specs.Dependents.{has_instance_in, has_seed_in, AreDependents, Following, IsDependent}
 use Rattle.bf_dependents.specs.Listing.{is_whole_in, places_of_task, places_in, places_of_run, up_to, IsListed}
 use Rattle.bf_dependents.specs.Marks.{follows_in, is_of, marks_before_in}
 use Rattle.bf_dependents.specs.Places.{place_cmp_total, place_cmp-IsAntisymmetric}
@@ -75,17 +75,17 @@ module _ (dag : Dag) (all : Following) where
           (e, inr (f, one.0, parts.0, parts.1))
       go false w e f (j, l, same) = absurd (omega (arith, l))
 
-  whole_has : (k t : ℕ) (i : ℤ) → is_marked_in (row_at all.touched k) t ≡ true → is_whole_in dag all k t ≡ true → has_in dag all k t i ≡ true
+  whole_has : (k t : ℕ) (i : ℤ) → is_marked_in (row_at all.touched k) t ≡ true → is_whole_in dag all k t ≡ true → has_instance_in dag all k t i ≡ true
   whole_has k t i m w = and_from _ _ m (elim (or_cases (has_seed_in all.seeds k t None) _ w) [
     | inl h ↦ or_left _ _ h
     | inr h ↦ or_right (has_seed_in all.seeds k t None) _ (or_right (has_seed_in all.seeds k t (Some i)) _ h)
   ])
 
-  single_has : (k t : ℕ) (i : ℤ) → is_marked_in (row_at all.touched k) t ≡ true → has_seed_in all.seeds k t (Some i) ≡ true → has_in dag all k t i ≡ true
+  single_has : (k t : ℕ) (i : ℤ) → is_marked_in (row_at all.touched k) t ≡ true → has_seed_in all.seeds k t (Some i) ≡ true → has_instance_in dag all k t i ≡ true
   single_has k t i m h = and_from _ _ m (or_right (has_seed_in all.seeds k t None) _ (or_left _ _ h))
 
   -- what is listed follows
-  listed_has : (k t : ℕ) (i : ℤ) → (runs : ℕ) → IsListed (places_in dag all runs) k t i → has_in dag all k t i ≡ true
+  listed_has : (k t : ℕ) (i : ℤ) → (runs : ℕ) → IsListed (places_in dag all runs) k t i → has_instance_in dag all k t i ≡ true
   listed_has k t i runs (inl c) =
       let run : _ = in_up_to (places_of_run dag all (length dag.tasks)) runs (whole k t) c in
       let task : _ = in_up_to (places_of_task dag all run.0) (length dag.tasks) (whole k t) run.2 in
@@ -94,7 +94,7 @@ module _ (dag : Dag) (all : Following) where
         | inl e ↦
             let same_run : run.0 ≡ k = sym (ap (λ (p : Place). p.run) e.0) in
             let same_task : task.0 ≡ t = sym (ap (λ (p : Place). p.task) e.0) in
-            subst (λ (n : ℕ). has_in dag all n t i ≡ true) same_run (subst (λ (s : ℕ). has_in dag all run.0 s i ≡ true) same_task (whole_has run.0 task.0 i is.0 e.1))
+            subst (λ (n : ℕ). has_instance_in dag all n t i ≡ true) same_run (subst (λ (s : ℕ). has_instance_in dag all run.0 s i ≡ true) same_task (whole_has run.0 task.0 i is.0 e.1))
         | inr e ↦
             let marked : is_marked_in (row_at all.touched k) t ≡ true = subst (λ (n : ℕ). is_marked_in (row_at all.touched n) t ≡ true) e.2 (subst (λ (s : ℕ). is_marked_in (row_at all.touched run.0) s ≡ true) e.3 is.0) in
             whole_has k t i marked (or_left _ _ (held (whole k t) e.1))
@@ -111,7 +111,7 @@ module _ (dag : Dag) (all : Following) where
       ]
 
   -- what follows is listed
-  has_listed : (k t : ℕ) (i : ℤ) (runs : ℕ) → k < runs → t < length dag.tasks → has_in dag all k t i ≡ true → IsListed (places_in dag all runs) k t i
+  has_listed : (k t : ℕ) (i : ℤ) (runs : ℕ) → k < runs → t < length dag.tasks → has_instance_in dag all k t i ≡ true → IsListed (places_in dag all runs) k t i
   has_listed k t i runs l m e = go (is_whole_in dag all k t) refl
     where
       both : (is_marked_in (row_at all.touched k) t ≡ true) × ((has_seed_in all.seeds k t None || (has_seed_in all.seeds k t (Some i) || follows_in dag t [] (marks_before_in all.touched k) (row_at all.touched k))) ≡ true)

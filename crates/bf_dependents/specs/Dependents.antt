@@ -44,12 +44,12 @@ is_led_to_in dag all k t i =
     || follows_in dag t [] (marks_before_in all.touched k) (row_at all.touched k))
 
 -- the instance i of the task t in the run k follows
-abbrev pub has_in : Dag → Following → ℕ → ℕ → ℤ → Bool
-has_in dag all k t i = is_marked_in (row_at all.touched k) t && is_led_to_in dag all k t i
+abbrev pub has_instance_in : Dag → Following → ℕ → ℕ → ℤ → Bool
+has_instance_in dag all k t i = is_marked_in (row_at all.touched k) t && is_led_to_in dag all k t i
 
 -- of so many runs it is known which instances follow
 pub record AreDependents (dag : Dag) (seeds : List Place) (runs : ℕ)
     (all : Following) : Type 0 where
   pub len : length all.touched ≡ runs
-  pub right : (k t : ℕ) (i : ℤ) → k < runs → t < length dag.tasks → (has_in dag all k t i ≡ true)
+  pub right : (k t : ℕ) (i : ℤ) → k < runs → t < length dag.tasks → (has_instance_in dag all k t i ≡ true)
       ↔ IsDependent dag seeds k t i

@@ -57,7 +57,7 @@ fn marks_of(
 }
 
 /// For each of so many runs the marks of the tasks of which an instance follows.
-pub(crate) fn touched_in(
+pub(crate) fn touched_marks_of(
     alloc: Global,
     plan: &Plan,
     seeds: &[Place],

@@ -1,11 +1,11 @@
 //! Which instances follow from seeds, once it is worked out.
 ghost use Rattle.std.specs.Prelude.{◌≡◌, ◌<◌, length, None, IfOk};
 ghost use Rattle.bf_graph.specs.Reach.{is_marked_in, row_at};
-ghost use Rattle.bf_dependents.specs.Dependents.{has_in, has_seed_in, is_led_to_in, AreDependents};
+ghost use Rattle.bf_dependents.specs.Dependents.{has_instance_in, has_seed_in, is_led_to_in, AreDependents};
 ghost use Rattle.bf_dependents.specs.Listing.{is_whole_in};
 ghost use Rattle.bf_dependents.specs.Seeded.{HoldSeeds};
 
-use crate::following::{follows, touched_in};
+use crate::following::{follows, touched_marks_of};
 use crate::marks::{is_marked, marks_at, marks_before};
 use crate::place::Place;
 use bf_plan::{Dag, Plan};
@@ -14,7 +14,7 @@ use std::alloc::Global;
 use std::collections::BTreeSet;
 use std::marker::Model;
 
-fn seeds_held(alloc: Global, seeds: &[Place]) -> Result<BTreeSet<Place>, OutOfMemory>
+fn seed_set_of(alloc: Global, seeds: &[Place]) -> Result<BTreeSet<Place>, OutOfMemory>
     ensures { IfOk result (λ held. HoldSeeds seeds.now held.keys) }
 {
     let mut held = BTreeSet::new(alloc);
@@ -52,7 +52,7 @@ impl Followers {
         ensures touched { IfOk result (λ all. all.touched ≡ touched) }
         ensures seeds { IfOk result (λ all. HoldSeeds seeds.now all.seeds) }
     {
-        let seeds = seeds_held(alloc, seeds)?;
+        let seeds = seed_set_of(alloc, seeds)?;
         Ok(Followers { touched, seeds })
     }
 
@@ -95,9 +95,9 @@ impl Followers {
     }
 
     /// Whether an instance of a task follows. In a run that isn't there none does. Takes time over the direct upstreams of the task.
-    pub fn has(&self, dag: &Dag, run: u32, task: u32, index: i32) -> bool
+    pub fn has_instance(&self, dag: &Dag, run: u32, task: u32, index: i32) -> bool
         requires { task < length dag.now.tasks }
-        ensures { result ≡ has_in dag.now self.now run task index }
+        ensures { result ≡ has_instance_in dag.now self.now run task index }
     {
         self.is_touched(run, task) && self.is_led_to(dag, run, task, index)
     }
@@ -114,6 +114,6 @@ pub fn dependents(
     ensures { IfOk result (AreDependents plan.now.dag seeds.now runs) }
 {
     let _sound = plan.dag();
-    let touched = touched_in(alloc, plan, seeds, runs)?;
+    let touched = touched_marks_of(alloc, plan, seeds, runs)?;
     Followers::new(alloc, touched, seeds)
 }

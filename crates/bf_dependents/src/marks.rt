@@ -40,7 +40,7 @@ pub(crate) fn marks_at(rows: &[Sequence<bool>], run: u32) -> &[bool]
 }
 
 /// A row for each of so many runs, without a mark.
-fn unmarked(alloc: Global, runs: u32, tasks: usize) -> Result<Vec<Sequence<bool>>, OutOfMemory>
+fn unmarked_rows(alloc: Global, runs: u32, tasks: usize) -> Result<Vec<Sequence<bool>>, OutOfMemory>
     ensures { IfOk result (λ rows. AreUnmarked runs tasks rows.items) }
 {
     let mut rows = Vec::with_capacity(alloc, runs as usize)?;
@@ -71,7 +71,7 @@ pub(crate) fn seed_rows(
 ) -> Result<Vec<Sequence<bool>>, OutOfMemory>
     ensures { IfOk result (λ rows. AreSeeded seeds.now runs tasks rows.items) }
 {
-    let mut rows = unmarked(alloc, runs, tasks)?;
+    let mut rows = unmarked_rows(alloc, runs, tasks)?;
     for seed in seeds {
         mark(&mut rows, *seed);
     }

@@ -20,13 +20,13 @@ pub struct Seed {
     pub index: Option<i32>,
 }
 
-fn task_of(plan: &Plan, seed: &Seed) -> Option<u32>
+fn task_number_of(plan: &Plan, seed: &Seed) -> Option<u32>
     ensures { result ≡ task_number plan.now.dag seed.now }
 {
     plan.graph().number_of(seed.task.as_str())
 }
 
-fn run_of(intervals: &[Interval], seed: &Seed) -> Option<usize>
+fn run_number_of(intervals: &[Interval], seed: &Seed) -> Option<usize>
     ensures { result ≡ run_number intervals.now seed.now }
 {
     let run = seed.run;
@@ -36,13 +36,13 @@ fn run_of(intervals: &[Interval], seed: &Seed) -> Option<usize>
 fn is_unknown_task(plan: &Plan, seed: &Seed) -> bool
     ensures { result ≡ is_unknown_task_in plan.now.dag seed.now }
 {
-    task_of(plan, seed).is_none()
+    task_number_of(plan, seed).is_none()
 }
 
 fn is_unknown_run(intervals: &[Interval], seed: &Seed) -> bool
     ensures { result ≡ is_unknown_run_in intervals.now seed.now }
 {
-    run_of(intervals, seed).is_none()
+    run_number_of(intervals, seed).is_none()
 }
 
 fn has_unknown_task(plan: &Plan, seeds: &[Seed]) -> bool
@@ -76,8 +76,8 @@ fn place_of(plan: &Plan, intervals: &[Interval], seed: &Seed) -> Option<Place>
     requires few { length intervals.now ≤ 4_096 }
     ensures { result ≡ place_in plan.now.dag intervals.now seed.now }
 {
-    let task = task_of(plan, seed)?;
-    let run = run_of(intervals, seed)? as u32;
+    let task = task_number_of(plan, seed)?;
+    let run = run_number_of(intervals, seed)? as u32;
     Some(Place {
         run,
         task,

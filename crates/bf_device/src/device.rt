@@ -20,7 +20,7 @@ pub enum Halt {
 
 impl Halt {
     /// What an error of std is, be it of a reader, a writer or a file: all but an interruption are failures.
-    pub fn of(error: &io::Error) -> Halt
+    pub fn from_error(error: &io::Error) -> Halt
         ensures { (result ≡ Halt.Again) ↔ (error_kind error.now ≡ Interrupted) }
     {
         match error.kind() {

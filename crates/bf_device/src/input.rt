@@ -43,7 +43,7 @@ impl<R: io::Read + Drop> Read for Input<R> {
         match self.inner.read(room) {
             Ok(count) => Ok(count),
             Err(error) => {
-                let halt = Halt::of(&error);
+                let halt = Halt::from_error(&error);
                 self.halts.count(halt);
                 Err(halt)
             }

@@ -50,7 +50,7 @@ impl<W: io::Write + Drop> Write for Output<W> {
                 Ok(count)
             }
             Err(error) => {
-                let halt = Halt::of(&error);
+                let halt = Halt::from_error(&error);
                 self.halts.count(halt);
                 Err(halt)
             }

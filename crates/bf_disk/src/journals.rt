@@ -55,7 +55,7 @@ fn fault_of(error: &io::Error) -> OpenFault {
 }
 
 /// Opens a file that is written to behind its last byte, or makes it. A device or a pipe is none: it might be read for ever.
-fn file_at<R: Files>(rt: &R, path: &str) -> io::Result<R::File> {
+fn open_or_make_file<R: Files>(rt: &R, path: &str) -> io::Result<R::File> {
     let file = File::options()
         .read(true)
         .append(true)
@@ -68,7 +68,7 @@ fn file_at<R: Files>(rt: &R, path: &str) -> io::Result<R::File> {
     }
 }
 
-fn bytes_of<F: Read>(alloc: Global, file: &mut F) -> io::Result<Vec<u8>> {
+fn read_bytes<F: Read>(alloc: Global, file: &mut F) -> io::Result<Vec<u8>> {
     let mut held = Vec::new(alloc);
     file.read_to_end(&mut held)?;
     Ok(held)
@@ -104,12 +104,12 @@ where
         alloc: Global,
         path: &str,
     ) -> Result<OpenJournal<Output<R::File>>, OpenFault> {
-        let mut file = match file_at(self.rt, path) {
+        let mut file = match open_or_make_file(self.rt, path) {
             Ok(file) => file,
             Err(error) => return Err(fault_of(&error)),
         };
         file.lock_for_one()?;
-        match bytes_of(alloc, &mut file) {
+        match read_bytes(alloc, &mut file) {
             Ok(held) => Ok(OpenJournal {
                 held,
                 device: Output::new(file),

@@ -18,6 +18,6 @@ pub use disk::Disk;
 pub use journals::{Journals, Lockable, OpenFault, OpenJournal};
 pub use launchers::Launchers;
 pub use new_file::NewFile;
-pub use prefix::first_bytes;
+pub use prefix::read_first_bytes;
 pub use source::{Source, SourceFault};
 pub use stored::StoredFiles;

@@ -73,7 +73,7 @@ fn options_of(old: &Option<Permissions>) -> OpenOptions {
 
 /// Gives a new file all permissions of the old one: when it was made, the system took some away. Where it can't, the new one is taken
 /// away.
-fn permitted<R: Files>(
+fn give_permissions<R: Files>(
     rt: &R,
     made: Made<R::File>,
     old: Option<Permissions>,
@@ -84,14 +84,14 @@ fn permitted<R: Files>(
     match made.file.set_permissions(old) {
         Ok(()) => Ok(made),
         Err(error) => {
-            take_away(rt, &made);
+            remove_made(rt, &made);
             Err(error.into())
         }
     }
 }
 
 /// Makes a file beside the one of a path, with its permissions, under a name that no file has.
-fn made_beside<R: Files>(
+fn make_beside<R: Files>(
     rt: &R,
     alloc: Global,
     target: &str,
@@ -101,7 +101,7 @@ fn made_beside<R: Files>(
     for number in 1..=MOST_NEW_FILES {
         let name = format!(in alloc; "{target}.new{number}")?;
         match options.open(rt, name.as_str()) {
-            Ok(file) => return permitted(rt, Made { file, name }, old),
+            Ok(file) => return give_permissions(rt, Made { file, name }, old),
             Err(error) if error.kind() == ErrorKind::AlreadyExists => {}
             Err(error) => return Err(error.into()),
         }
@@ -109,7 +109,7 @@ fn made_beside<R: Files>(
     Err(ReplaceFault::CannotReplace)
 }
 
-fn take_away<R: Files>(rt: &R, made: &Made<R::File>) {
+fn remove_made<R: Files>(rt: &R, made: &Made<R::File>) {
     // Where it can't be taken away, nothing is left to say so on.
     let _ = fs::remove_file(rt, made.name.as_str());
 }
@@ -136,12 +136,12 @@ impl<'a, R: Files> NewFile<'a, R> {
         ensures { self.new.failed ≡ self.old.failed }
     {
         if self.made.is_none() {
-            self.made = Some(made_beside(self.rt, self.alloc, self.target.as_str())?);
+            self.made = Some(make_beside(self.rt, self.alloc, self.target.as_str())?);
         }
         Ok(())
     }
 
-    fn written(&mut self, bytes: &[u8]) -> Result<usize, ReplaceFault>
+    fn write_made(&mut self, bytes: &[u8]) -> Result<usize, ReplaceFault>
         ensures bound { IfOk result (λ n. n ≤ length bytes.now) }
         ensures some { IfOk result (λ n. bytes.now ≢ [] → n ≢ 0) }
         ensures failed { self.new.failed ≡ self.old.failed }
@@ -153,7 +153,7 @@ impl<'a, R: Files> NewFile<'a, R> {
         }
     }
 
-    fn synced(&mut self) -> Result<(), ReplaceFault>
+    fn sync_made(&mut self) -> Result<(), ReplaceFault>
         ensures { self.new.failed ≡ self.old.failed }
     {
         self.make()?;
@@ -173,20 +173,20 @@ impl<'a, R: Files> Replacement for NewFile<'a, R> {
     ghost failed = { λ n. has_failed n };
 
     fn write(&mut self, bytes: &[u8]) -> Result<usize, ReplaceFault> {
-        let written = self.written(bytes);
+        let written = self.write_made(bytes);
         self.failed = self.failed || written.is_err();
         written
     }
 
     fn sync(&mut self) -> Result<(), ReplaceFault> {
-        let synced = self.synced();
+        let synced = self.sync_made();
         self.failed = self.failed || synced.is_err();
         synced
     }
 }
 
 /// That a new file can be made beside the one of a path is tried, and nothing is left of that.
-fn begun_on<'a, R: Files>(
+fn try_begin<'a, R: Files>(
     rt: &'a R,
     alloc: Global,
     path: &str,
@@ -194,7 +194,7 @@ fn begun_on<'a, R: Files>(
     ensures { IfOk result (λ begun. string_bytes begun.0.path ≡ path.now) }
 {
     let file = target_of(rt, alloc, path)?;
-    let tried = made_beside(rt, alloc, file.as_str())?;
+    let tried = make_beside(rt, alloc, file.as_str())?;
     fs::remove_file(rt, tried.name.as_str())?;
     let new = NewFile {
         rt,
@@ -208,14 +208,14 @@ fn begun_on<'a, R: Files>(
 }
 
 /// Renames a new file. Where it can't be, it is taken away.
-fn renamed_to<R: Files>(new: &NewFile<'_, R>, file: &str) -> Result<(), ReplaceFault> {
+fn rename_made<R: Files>(new: &NewFile<'_, R>, file: &str) -> Result<(), ReplaceFault> {
     let Some(made) = &new.made else {
         return Err(ReplaceFault::CannotReplace);
     };
     match fs::rename(new.rt, made.name.as_str(), file) {
         Ok(()) => Ok(()),
         Err(error) => {
-            take_away(new.rt, made);
+            remove_made(new.rt, made);
             Err(error.into())
         }
     }
@@ -233,8 +233,12 @@ impl<'a, R: Files> Folder for Disk<'a, R> {
 
     ghost failed = { λ d. has_failed_on d };
 
-    fn begin(&mut self, alloc: Global, path: &str) -> Result<NewFile<'a, R>, ReplaceFault> {
-        match begun_on(self.rt, alloc, path) {
+    fn begin_replacement(
+        &mut self,
+        alloc: Global,
+        path: &str,
+    ) -> Result<NewFile<'a, R>, ReplaceFault> {
+        match try_begin(self.rt, alloc, path) {
             Ok((target, new)) => {
                 self.target = Some(target);
                 Ok(new)
@@ -248,7 +252,7 @@ impl<'a, R: Files> Folder for Disk<'a, R> {
 
     fn rename(&mut self, new: NewFile<'a, R>) -> Result<(), ReplaceFault> {
         let renamed = match &self.target {
-            Some(target) => renamed_to(&new, target.file.as_str()),
+            Some(target) => rename_made(&new, target.file.as_str()),
             None => Err(ReplaceFault::CannotReplace),
         };
         self.failed = self.failed || renamed.is_err();
@@ -257,7 +261,7 @@ impl<'a, R: Files> Folder for Disk<'a, R> {
 
     fn discard(&mut self, new: NewFile<'a, R>) {
         if let Some(made) = &new.made {
-            take_away(self.rt, made);
+            remove_made(self.rt, made);
         }
         self.failed = new.failed || self.failed;
     }

@@ -11,7 +11,7 @@ use std::alloc::Global;
 const CHUNK: usize = 8_192;
 
 /// The first `count` bytes of a path's file, or all of them where it has fewer.
-pub fn first_bytes<S: Source>(
+pub fn read_first_bytes<S: Source>(
     alloc: Global,
     path: &str,
     count: usize,
@@ -22,11 +22,11 @@ pub fn first_bytes<S: Source>(
     ensures stays { (p : List ℕ) → S.file files.new p ≡ S.file files.old p }
 {
     let mut device = files.open(path)?;
-    first_read(alloc, &mut device, count)
+    read_front(alloc, &mut device, count)
 }
 
 /// Reads up to `count` bytes, in whatever pieces a device gives. It gives up where a read fails, and at the 1,001st interruption.
-fn first_read<R: Read>(alloc: Global, device: &mut R, count: usize) -> Result<Vec<u8>, SourceFault>
+fn read_front<R: Read>(alloc: Global, device: &mut R, count: usize) -> Result<Vec<u8>, SourceFault>
     ensures bound { IfOk result (λ bytes. vec_len bytes ≤ count) }
     ensures first { IfOk result (λ bytes.
         IfSome (R.left device.old) (λ held. bytes.items ≡ take count held)) }

@@ -69,7 +69,7 @@ impl Source for StoredFiles {
     ghost file = { λ s path. Some (file_in s path) };
 
     fn open(&mut self, path: &str) -> Result<Bytes, SourceFault> {
-        let Some(bytes) = found_in(&self.files, path) else {
+        let Some(bytes) = bytes_at(&self.files, path) else {
             return Err(SourceFault::CannotRead);
         };
         Ok(Bytes::new(bytes.to_vec(self.alloc)?))
@@ -77,7 +77,7 @@ impl Source for StoredFiles {
 }
 
 #[tactic(auto, using(crate::proofs::FoundFiles::found_bytes))]
-fn found_in<'a>(files: &'a [StoredFile], path: &str) -> Option<&'a [u8]>
+fn bytes_at<'a>(files: &'a [StoredFile], path: &str) -> Option<&'a [u8]>
     ensures { option_map (λ b. b.now) result ≡ file_in (map seen files.entry.now) path.now }
 {
     let file = file_at(files, path)?;

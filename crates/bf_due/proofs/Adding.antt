@@ -19,7 +19,7 @@ use Rattle.bf_due.specs.declared.agenda.Turn.{Turn}
 use Rattle.bf_due.specs.declared.cursors.Cursors.{Cursors}
 use Rattle.bf_due.specs.declared.news.News.{News}
 use Rattle.bf_due.specs.Cursors.{AreNoted}
-use Rattle.bf_due.specs.Stirring.{is_settled, matters_in}
+use Rattle.bf_due.specs.Stirring.{is_settled, may_let_be_decided_in}
 use Rattle.bf_due.specs.Dues.{Asks, AsksAll, HasAdded, IsAround, IsBelow, IsCloseOf, IsDueStep, IsOfFirst, IsOfRun, IsOfRunBelow, IsOfTask, IsOpening, IsRanked, IsStirred, IsUnder}
 use Rattle.bf_due.proofs.Reached.{held_at, row_put}
 
@@ -152,10 +152,10 @@ under_split b s n ds rising (Step.Close k) of = inr of
 under_split b s n ds rising Step.Open of = absurd of
 under_split b s n ds rising (Step.Settle y) of =
     let at : _ = any_of ds y.task ((rising.exact y.task).1 of.1) in
-    inl (at.0, at.1, ((of.0, sym at.2), subst (λ (t : ℕ). matters_in b.dag s n t ≡ true) (sym at.2) of.2))
+    inl (at.0, at.1, ((of.0, sym at.2), subst (λ (t : ℕ). may_let_be_decided_in b.dag s n t ≡ true) (sym at.2) of.2))
 under_split b s n ds rising (Step.Expand y) of =
     let at : _ = any_of ds y.task ((rising.exact y.task).1 of.1) in
-    inl (at.0, at.1, ((of.0, sym at.2), subst (λ (t : ℕ). matters_in b.dag s n t ≡ true) (sym at.2) of.2))
+    inl (at.0, at.1, ((of.0, sym at.2), subst (λ (t : ℕ). may_let_be_decided_in b.dag s n t ≡ true) (sym at.2) of.2))
 
 -- a step around the news: under them, or of the same task in the next run once it is settled
 around_split : (dag : Dag) (s : State) (n : News) (x : Step) → IsAround dag s n x → IsUnder dag s n x ⊎ (IsOfTask (n.run + 1) n.task x × (is_settled s n.run n.task ≡ true))
@@ -197,7 +197,7 @@ then_asks b k P Q R first second third old mid new split p q = λ is.
     (there.0, then_added b P Q R old mid new split here.1 there.1)
 
 -- news that don't matter to a task stir it not
-pub not_stirred : (b : Backfill) (s : State) (n : News) (t : ℕ) → matters_in b.dag s n t ≡ false → (old : List Step) → HasAdded b (IsStirred b.dag s n t) old old
+pub not_stirred : (b : Backfill) (s : State) (n : News) (t : ℕ) → may_let_be_decided_in b.dag s n t ≡ false → (old : List Step) → HasAdded b (IsStirred b.dag s n t) old old
 not_stirred b s n t calm old = none_added b _ old (λ x of due. both_ways _ calm of.1)
 
 pub one_stirred : (b : Backfill) (s : State) (n : News) (ts : List ℕ) (m : ℕ) (first second third : Cursors) (old mid new : List Step) →

@@ -11,7 +11,7 @@ use Rattle.bf_core.specs.declared.state.Phase.{Phase}
 use Rattle.bf_core.specs.declared.state.RunPhase.{RunPhase}
 use Rattle.bf_core.specs.declared.event.Event.{Event}
 use Rattle.bf_core.specs.declared.decision.Decision.{Decision}
-use Rattle.bf_core.specs.Deciding.{Seen, lets_decide_in, ruling_of, gate_of, pulled, instances_of, mapped, after_verdict, decision}
+use Rattle.bf_core.specs.Deciding.{Seen, lets_decide_in, upstream_verdict_of, task_verdict_of, pulled, instances_of, mapped, after_verdict, decision}
 use Rattle.bf_core.specs.Events.{cell_at, phase_of, results, cons_result, counts_of_instance, counts_of_instances, seen_in, before_in, decision_in, goes_on_in, is_run, instance_of, change_at, change_instance, begun, place_in, next_run, put, after, IsDecidable, IsEnabled}
 use Rattle.bf_core.proofs.Depth.{ruling_cong}
 use Rattle.bf_core.proofs.Reading.{put_cases, with_phase_cell}
@@ -22,8 +22,8 @@ use Rattle.bf_core.proofs.Shape.{put_phase, phase_cases}
 
 -- ---- what a decision looks at
 
-gate_alike : (dag : Dag) (k : ℕ) (a b : ℕ → Seen) (p q : Option TaskValue) (t : ℕ) → ruling_of dag a t ≡ ruling_of dag b t → p ≡ q → gate_of dag k a p t ≡ gate_of dag k b q t
-unfolding gate_of
+gate_alike : (dag : Dag) (k : ℕ) (a b : ℕ → Seen) (p q : Option TaskValue) (t : ℕ) → upstream_verdict_of dag a t ≡ upstream_verdict_of dag b t → p ≡ q → task_verdict_of dag k a p t ≡ task_verdict_of dag k b q t
+unfolding task_verdict_of
 gate_alike dag k a b p q t h e = rw (e, h)
 
 -- what comes of a task that goes on, by its source's value
@@ -50,16 +50,16 @@ waits_alike dag a b t Verdict.Run same n = go (task_of dag t).expand same n
     go (Some s) same n = from_alike dag (pulled dag a t) (pulled dag b t) s (a s).value (b s).value (ap (λ (x : Seen). x.value) (same s refl)) n
 
 -- a decision that does not wait doesn't, wherever the ruling is the same, and the same is known of the source and of the past
-pub decision_alike : (dag : Dag) (k : ℕ) (a b : ℕ → Seen) (p q : Option TaskValue) (t : ℕ) → ruling_of dag a t ≡ ruling_of dag b t → ((s : ℕ) → (task_of dag t).expand ≡ Some s → a s ≡ b s) → p ≡ q →
+pub decision_alike : (dag : Dag) (k : ℕ) (a b : ℕ → Seen) (p q : Option TaskValue) (t : ℕ) → upstream_verdict_of dag a t ≡ upstream_verdict_of dag b t → ((s : ℕ) → (task_of dag t).expand ≡ Some s → a s ≡ b s) → p ≡ q →
     decision dag k a p t ≢ Decision.Wait → decision dag k b q t ≢ Decision.Wait
 unfolding decision
 decision_alike dag k a b p q t h source e n =
     subst (λ (v : Verdict). after_verdict dag b t v ≢ Decision.Wait) (gate_alike dag k a b p q t h e)
-    (waits_alike dag a b t (gate_of dag k a p t) source n)
+    (waits_alike dag a b t (task_verdict_of dag k a p t) source n)
 
 -- the ruling on the task t in the run k is the same in both states, and so is what is seen of its source
 pub record RulesAlike (dag : Dag) (r s : State) (k t : ℕ) : Type 0 where
-  pub ruling_of : ruling_of dag (λ u. seen_in (cell_at r k u)) t ≡ ruling_of dag (λ u. seen_in (cell_at s k u)) t
+  pub upstream_verdict_of : upstream_verdict_of dag (λ u. seen_in (cell_at r k u)) t ≡ upstream_verdict_of dag (λ u. seen_in (cell_at s k u)) t
   pub source : (u : ℕ) → (task_of dag t).expand ≡ Some u → seen_in (cell_at r k u) ≡ seen_in (cell_at s k u)
 
 -- what is looked at when the task is decided comes to the same in both states
@@ -224,7 +224,7 @@ pub rules_alike : (dag : Dag) → IsSound dag → (limits : Limits) (s : State) 
 rules_alike dag sound limits s e able j u = elim (any_touched e j (task_of dag u).upstreams) [
   | inl w ↦ inr w
   | inr none ↦ inl (record {
-    ruling_of = ruling_cong dag (λ v. seen_in (cell_at (after dag s e) j v)) (λ v. seen_in (cell_at s j v)) u (λ v h. seen_kept dag limits s e able j v (none v h));
+    upstream_verdict_of = ruling_cong dag (λ v. seen_in (cell_at (after dag s e) j v)) (λ v. seen_in (cell_at s j v)) u (λ v h. seen_kept dag limits s e able j v (none v h));
     source = λ v is. seen_kept dag limits s e able j v (none v (sound.source_is_upstream u v is));
   })
 ]

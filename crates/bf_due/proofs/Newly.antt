@@ -18,7 +18,7 @@ use Rattle.bf_due.specs.declared.agenda.Step.{Step}
 use Rattle.bf_due.specs.declared.agenda.Turn.{Turn}
 use Rattle.bf_due.specs.Agendas.{event_of}
 use Rattle.bf_due.specs.declared.news.News.{News}
-use Rattle.bf_due.specs.Stirring.{decided_at, ended_at, is_settled, matters_in}
+use Rattle.bf_due.specs.Stirring.{decided_at, ended_at, is_settled, may_let_be_decided_in}
 use Rattle.bf_due.specs.Dues.{Concerns, Hears, IsBehindNews, IsBelowNews, newest}
 use Rattle.bf_due.proofs.Locality.{LooksAlike, PastTouched, RulesAlike, Touches, Turns, decidable_alike, goes_on_alike, past_kept, phase_kept, rules_alike, seen_kept, touches?, turns?, undecided_back}
 use Rattle.bf_due.proofs.Reached.{settled_stays}
@@ -51,7 +51,7 @@ module _ (dag : Dag) (sound : IsSound dag) (limits : Limits) (s : State) (e : Ev
     rules_or : (k t : ℕ) → IsDecidable dag (after dag s e) k t → RulesAlike dag (after dag s e) s k t ⊎ IsBelowNews dag (after dag s e) n k t
     rules_or k t due = elim (rules_alike dag sound limits s e able k t) [
       | inl alike ↦ inl alike
-      | inr w ↦ elim (cases_Bool (matters_in dag (after dag s e) n t)) [
+      | inr w ↦ elim (cases_Bool (may_let_be_decided_in dag (after dag s e) n t)) [
         | inl holds ↦ inr ((told.only k w.0 w.2).0, subst₂ (λ (us : List ℕ) (v : ℕ). Contains us v) (upstreams_of_task dag t) (told.only k w.0 w.2).1 (contains_one (task_of dag t).upstreams w.0 w.1), holds)
         | inr fails ↦ inl (subst (λ (j : ℕ). RulesAlike dag (after dag s e) s j t) (sym (told.only k w.0 w.2).0) (unmoved_rules dag limits s e able n told t fails (subst (λ (j : ℕ). IsDecidable dag (after dag s e) j t) (told.only k w.0 w.2).0 due)))
       ]

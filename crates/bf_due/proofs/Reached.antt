@@ -21,7 +21,7 @@ use Rattle.bf_core.proofs.Sums.{finished_settled}
 use Rattle.bf_plan.proofs.ListLemmas.{some_same}
 use Rattle.bf_due.proofs.Locality.{awaits_upstream}
 use Rattle.bf_due.specs.declared.cursors.Cursors.{Cursors}
-use Rattle.bf_due.specs.Cursors.{AreFinished, ArePassed, AreNoted, Awaits, HasFinished, IsFinished, IsNoted, is_early_in, lets}
+use Rattle.bf_due.specs.Cursors.{AreFinished, ArePassed, AreNoted, Awaits, HasFinished, IsFinished, IsNoted, has_early_rule_in, lets}
 use Rattle.bf_due.specs.Stirring.{all_settled, is_settled}
 
 undecided_open : (c : Cell) → c ≡ Cell.Undecided → value_in c ≡ None
@@ -88,7 +88,7 @@ finished_stays dag limits s (Event.Tick m) able j u i h = h
 -- what is noted of the runs is right after each event, and need not be touched
 pub reached_stays : (b now : Backfill) (e : Event) → MayCome b e → now ≡ moved b e → (rows : List Cursors) → AreNoted b rows → AreNoted now rows
 reached_stays b now e able same rows reached = subst (λ (n : Backfill). AreNoted n rows) (sym same) (λ k row at. record {
-  passed = λ t. passed_stays b.dag b.limits b.state e able.0 (is_early_in b.dag t) k t _ ((reached k row at).passed t);
+  passed = λ t. passed_stays b.dag b.limits b.state e able.0 (has_early_rule_in b.dag t) k t _ ((reached k row at).passed t);
   upstreams = λ t. passed_stays b.dag b.limits b.state e able.0 false k t _ ((reached k row at).upstreams t);
   finished = λ t i l. finished_stays b.dag b.limits b.state e able.0 k t i ((reached k row at).finished t i l);
   settled = λ t l. settled_stays b.dag b.limits b.state e able.0 k t ((reached k row at).settled t l);
@@ -154,7 +154,7 @@ member (u ∷ us) zero l = inl refl
 member (u ∷ us) (suc i) l = inr (member us i (omega arith))
 
 -- while a task awaits an upstream it isn't due, whatever comes of the others
-pub awaits_not_due : (dag : Dag) (s : State) (k t i : ℕ) → Awaits (is_early_in dag t) dag s k t i → IsDecidable dag s k t → ⊥
+pub awaits_not_due : (dag : Dag) (s : State) (k t i : ℕ) → Awaits (has_early_rule_in dag t) dag s k t i → IsDecidable dag s k t → ⊥
 awaits_not_due dag s k t i w due = awaits_upstream dag s k t (get_or (task_of dag t).upstreams i 0) (member (task_of dag t).upstreams i w.0) w.1 due
 
 -- while it awaits one to be settled not all are

@@ -31,8 +31,8 @@ Awaits early dag state run task place =
     × (lets early dag state run (slice_index (task_of dag task).upstreams place) ≡ false)
 
 -- the task need not wait for all of its upstreams
-abbrev pub is_early_in : Dag → ℕ → Bool
-is_early_in dag task = not (is_waiting (task_of dag task).rule)
+abbrev pub has_early_rule_in : Dag → ℕ → Bool
+has_early_rule_in dag task = not (is_waiting (task_of dag task).rule)
 
 abbrev pub IsFinished : Phase → Type 0
 IsFinished (Phase.Finished outcome) = Unit {0}
@@ -50,7 +50,7 @@ AreFinished cell count = (place : ℕ) → place < count → HasFinished cell pl
 -- what is noted of the run is right
 pub record IsNoted (backfill : Backfill) (run : ℕ) (row : Cursors) : Type 0 where
   pub passed : (task : ℕ) → ArePassed
-      (is_early_in backfill.dag task) backfill.dag backfill.state run task
+      (has_early_rule_in backfill.dag task) backfill.dag backfill.state run task
       (slice_index row.passed.items task)
   pub upstreams : (task : ℕ) → ArePassed false backfill.dag backfill.state run task
       (slice_index row.settled_upstreams.items task)

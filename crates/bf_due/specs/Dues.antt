@@ -13,7 +13,7 @@ use Rattle.bf_due.specs.declared.news.News.{News}
 use Rattle.bf_due.specs.declared.cursors.Cursors.{Cursors}
 use Rattle.bf_due.specs.Cursors.{AreNoted, IsNoted}
 use Rattle.bf_due.specs.Agendas.{event_of}
-use Rattle.bf_due.specs.Stirring.{decided_at, ended_at, is_settled, matters_in}
+use Rattle.bf_due.specs.Stirring.{decided_at, ended_at, is_settled, may_let_be_decided_in}
 
 -- the steps on the agenda, how many there is room for, and how far the runs have come
 pub record Kept : Type 0 where
@@ -53,7 +53,7 @@ IsOfTask run task step = ⊥
 -- a step of the task in the run of the news, to which they matter
 abbrev pub IsStirred : Dag → State → News → ℕ → Step → Type 0
 IsStirred dag state news task step =
-    IsOfTask news.run task step × (matters_in dag state news task ≡ true)
+    IsOfTask news.run task step × (may_let_be_decided_in dag state news task ≡ true)
 
 -- so it is with one of these tasks, of so many from the first on
 abbrev pub IsOfFirst : Dag → State → News → List ℕ → ℕ → Step → Type 0
@@ -94,7 +94,7 @@ IsOfRunBelow bound (Step.Expand turn) = turn.run < bound
 abbrev pub IsBelowNews : Dag → State → News → ℕ → ℕ → Type 0
 IsBelowNews dag state news run task =
     (run ≡ news.run) × IsUpstream (shape_of dag).upstreams news.task task
-    × (matters_in dag state news task ≡ true)
+    × (may_let_be_decided_in dag state news task ≡ true)
 
 -- the task in the run is the one of the news in the next run, and that one is settled now
 abbrev pub IsBehindNews : State → News → ℕ → ℕ → Type 0

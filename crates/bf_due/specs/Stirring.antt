@@ -4,7 +4,7 @@ use Rattle.std.specs.List.{list_all}
 use Rattle.bf_value.specs.declared.name.JobName.{JobName}
 use Rattle.bf_rule.specs.declared.rule.Rule.{Rule}
 use Rattle.bf_rule.specs.declared.rule.Counts.{Counts}
-use Rattle.bf_rule.specs.Verdicts.{fires_in, is_waiting, none_counted}
+use Rattle.bf_rule.specs.Verdicts.{is_rule_met_in, is_waiting, none_counted}
 use Rattle.bf_plan.specs.declared.plan.Dag.{Dag}
 use Rattle.bf_plan.specs.Plans.{is_branch_in}
 use Rattle.bf_core.specs.Terms.{task_of}
@@ -55,8 +55,8 @@ ended_at dag state name =
 -- ---- to whom they matter
 
 -- the rule looks for what is among these, and not for nothing
-abbrev pub stirs_in : Rule → Counts → Bool
-stirs_in rule counts = fires_in rule counts && not (fires_in rule none_counted)
+abbrev pub rule_looks_for_in : Rule → Counts → Bool
+rule_looks_for_in rule counts = is_rule_met_in rule counts && not (is_rule_met_in rule none_counted)
 
 abbrev pub is_settled : State → ℕ → ℕ → Bool
 is_settled state run task = is_some (value_in (cell_at state run task))
@@ -72,13 +72,13 @@ looks_beyond_in dag upstream task =
     || (is_some (task_of dag task).expand || is_branch_in (task_of dag upstream))
 
 -- the task doesn't wait for its previous run: it does not depend on it, or there is none, or it is settled there
-abbrev pub knows_past_in : Dag → State → ℕ → ℕ → Bool
-knows_past_in dag state run task =
+abbrev pub is_past_known_in : Dag → State → ℕ → ℕ → Bool
+is_past_known_in dag state run task =
     not (task_of dag task).depends_on_past || ((run == 0) || is_some (before_in state run task))
 
 -- the news may let the task be decided, which is below theirs: nothing else came of the run
-abbrev pub matters_in : Dag → State → News → ℕ → Bool
-matters_in dag state news task =
+abbrev pub may_let_be_decided_in : Dag → State → News → ℕ → Bool
+may_let_be_decided_in dag state news task =
     looks_beyond_in dag news.task task
-    || ((stirs_in (task_of dag task).rule news.counts && knows_past_in dag state news.run task)
+    || ((rule_looks_for_in (task_of dag task).rule news.counts && is_past_known_in dag state news.run task)
     || all_settled dag state news.run task)

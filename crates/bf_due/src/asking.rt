@@ -9,11 +9,11 @@ ghost use Rattle.bf_due.specs.declared.agenda.Step.{Step};
 ghost use Rattle.bf_due.specs.Agendas.{event_of};
 ghost use Rattle.bf_due.specs.Dues.{Asks, AsksAll, Concerns, HasAdded, HasRoom, IsAround, IsBelow, IsPruned, IsCloseOf, IsDueStep, IsOfFirst, IsOfRun, IsOfTask, IsOpening, IsStirred, IsUnder, SpeaksOfTask, newest};
 ghost use Rattle.bf_due.specs.Cursors.{IsNoted};
-ghost use Rattle.bf_due.specs.Stirring.{knows_past_in, looks_beyond_in, matters_in};
+ghost use Rattle.bf_due.specs.Stirring.{is_past_known_in, looks_beyond_in, may_let_be_decided_in};
 
 use crate::agenda::{Agenda, Step, Turn};
 use crate::cursors::Cursors;
-use crate::news::{News, stirs};
+use crate::news::{News, rule_looks_for};
 use bf_core::{Core, Event};
 
 fn is_expansion(event: &Event) -> bool
@@ -24,7 +24,7 @@ fn is_expansion(event: &Event) -> bool
 }
 
 /// Whether a task that may be decided now goes on to its expansion.
-fn goes_on(core: &Core<'_>, run: u32, task: u32) -> Option<bool>
+fn decides_by_expansion(core: &Core<'_>, run: u32, task: u32) -> Option<bool>
     ensures some { IfSome result (λ expands. MayCome core.now (deciding expands run task)) }
     ensures none { IfNone result (¬ (IsDecidable core.now.dag core.now.state run task)) }
 {
@@ -36,8 +36,8 @@ fn goes_on(core: &Core<'_>, run: u32, task: u32) -> Option<bool>
 pub fn may_decide(core: &Core<'_>, run: u32, task: u32, expands: bool) -> bool
     ensures { IsTrue result ↔ MayCome core.now (deciding expands run task) }
 {
-    match goes_on(core, run, task) {
-        Some(goes_on) => goes_on == expands,
+    match decides_by_expansion(core, run, task) {
+        Some(decides_by_expansion) => decides_by_expansion == expands,
         None => false,
     }
 }
@@ -55,14 +55,14 @@ fn may_come(core: &Core<'_>, step: Step) -> bool
 }
 
 /// The step that decides a task, where it may be decided now.
-fn decision(core: &Core<'_>, run: u32, task: u32) -> Option<Step>
+fn decision_step(core: &Core<'_>, run: u32, task: u32) -> Option<Step>
     requires { task < length core.now.dag.tasks }
     ensures due { IfSome result (IsDueStep core.now) }
     ensures each { (x : Step) → IsOfTask run task x → IsDueStep core.now x → result ≡ Some x }
 {
     let rank = core.plan().graph().rank(task);
     let turn = Turn { run, rank, task };
-    match goes_on(core, run, task) {
+    match decides_by_expansion(core, run, task) {
         Some(true) => Some(Step::Expand(turn)),
         Some(false) => Some(Step::Settle(turn)),
         None => None,
@@ -77,7 +77,7 @@ fn add_decision(agenda: &mut Agenda, core: &Core<'_>, run: u32, task: u32)
     ensures len { length agenda.new.items ≤ length agenda.old.items + 1 }
     ensures room { agenda.old.room ≤ agenda.new.room }
 {
-    if let Some(step) = decision(core, run, task) {
+    if let Some(step) = decision_step(core, run, task) {
         agenda.add(step);
     }
 }
@@ -105,7 +105,13 @@ pub(crate) fn add_open(agenda: &mut Agenda, core: &Core<'_>)
 }
 
 /// Adds the step that decides a task, where it may be decided now. The core is asked once no upstream is awaited.
-fn ask(agenda: &mut Agenda, row: &mut Cursors, core: &Core<'_>, run: u32, task: u32)
+fn add_decision_if_unawaited(
+    agenda: &mut Agenda,
+    row: &mut Cursors,
+    core: &Core<'_>,
+    run: u32,
+    task: u32,
+)
     requires task { task < length core.now.dag.tasks }
     requires room { length agenda.old.items + 1 ≤ agenda.old.room }
     ensures asks { Asks core.now run (IsOfTask run task) row.old row.new agenda.old.items
@@ -113,7 +119,7 @@ fn ask(agenda: &mut Agenda, row: &mut Cursors, core: &Core<'_>, run: u32, task: 
     ensures len { length agenda.new.items ≤ length agenda.old.items + 1 }
     ensures room { agenda.old.room ≤ agenda.new.room }
 {
-    if row.lets_be_decided(core, run, task) {
+    if row.is_free_to_decide(core, run, task) {
         add_decision(agenda, core, run, task);
     }
 }
@@ -125,13 +131,13 @@ fn looks_beyond(core: &Core<'_>, upstream: u32, task: u32) -> bool
 {
     let dag = core.plan().dag();
     let task = dag.task(task);
-    task.rule.waits() || task.expand.is_some() || dag.is_branch(upstream)
+    task.rule.waits_until_settled() || task.expand.is_some() || dag.is_branch(upstream)
 }
 
 /// Whether a task doesn't wait for its previous run.
-fn knows_past(core: &Core<'_>, run: u32, task: u32) -> bool
+fn is_past_known(core: &Core<'_>, run: u32, task: u32) -> bool
     requires { task < length core.now.dag.tasks }
-    ensures { result ≡ knows_past_in core.now.dag core.now.state run task }
+    ensures { result ≡ is_past_known_in core.now.dag core.now.state run task }
 {
     if !core.plan().dag().task(task).depends_on_past || run == 0 {
         return true;
@@ -140,24 +146,30 @@ fn knows_past(core: &Core<'_>, run: u32, task: u32) -> bool
 }
 
 /// Whether news may let a task be decided that is below theirs.
-fn matters(row: &mut Cursors, core: &Core<'_>, news: News, task: u32) -> bool
+fn may_let_be_decided(row: &mut Cursors, core: &Core<'_>, news: News, task: u32) -> bool
     requires { task < length core.now.dag.tasks }
     ensures matters { IsNoted core.now news.run row.old → result ≡ false
-        → matters_in core.now.dag core.now.state news task ≡ false }
+        → may_let_be_decided_in core.now.dag core.now.state news task ≡ false }
     ensures reached { IsNoted core.now news.run row.old → IsNoted core.now news.run row.new }
 {
     if looks_beyond(core, news.task, task) {
         return true;
     }
     let rule = core.plan().dag().task(task).rule;
-    if stirs(rule, news.counts) && knows_past(core, news.run, task) {
+    if rule_looks_for(rule, news.counts) && is_past_known(core, news.run, task) {
         return true;
     }
-    row.are_settled(core, news.run, task)
+    row.are_upstreams_settled(core, news.run, task)
 }
 
 /// Adds the step that decides a task below the one of the news, where they matter to it and it may be decided now.
-fn stir(agenda: &mut Agenda, row: &mut Cursors, core: &Core<'_>, news: News, task: u32)
+fn add_decision_by_news(
+    agenda: &mut Agenda,
+    row: &mut Cursors,
+    core: &Core<'_>,
+    news: News,
+    task: u32,
+)
     requires task { task < length core.now.dag.tasks }
     requires room { length agenda.old.items + 1 ≤ agenda.old.room }
     ensures asks { Asks core.now news.run (IsStirred core.now.dag core.now.state news task) row.old
@@ -165,13 +177,19 @@ fn stir(agenda: &mut Agenda, row: &mut Cursors, core: &Core<'_>, news: News, tas
     ensures len { length agenda.new.items ≤ length agenda.old.items + 1 }
     ensures room { agenda.old.room ≤ agenda.new.room }
 {
-    if matters(row, core, news, task) {
-        ask(agenda, row, core, news.run, task);
+    if may_let_be_decided(row, core, news, task) {
+        add_decision_if_unawaited(agenda, row, core, news.run, task);
     }
 }
 
 /// Adds the steps that decide these tasks, to which the news matter, where they may be decided now.
-fn stir_each(agenda: &mut Agenda, row: &mut Cursors, core: &Core<'_>, news: News, tasks: &[u32])
+fn add_decisions_by_news(
+    agenda: &mut Agenda,
+    row: &mut Cursors,
+    core: &Core<'_>,
+    news: News,
+    tasks: &[u32],
+)
     requires tasks { (i : ℕ) → i < length tasks.now
         → slice_index tasks.now i < length core.now.dag.tasks }
     requires room { length agenda.old.items + length tasks.now ≤ agenda.old.room }
@@ -182,12 +200,12 @@ fn stir_each(agenda: &mut Agenda, row: &mut Cursors, core: &Core<'_>, news: News
     ensures room { agenda.old.room ≤ agenda.new.room }
 {
     for task in tasks {
-        stir(agenda, row, core, news, *task);
+        add_decision_by_news(agenda, row, core, news, *task);
     }
 }
 
 /// Adds the steps that decide the tasks of a run, where they may be decided now.
-fn ask_all(agenda: &mut Agenda, row: &mut Cursors, core: &Core<'_>, run: u32)
+fn add_decisions_of_run(agenda: &mut Agenda, row: &mut Cursors, core: &Core<'_>, run: u32)
     requires { length agenda.old.items + length core.now.dag.tasks ≤ agenda.old.room }
     ensures asks { Asks core.now run (IsBelow run (length core.now.dag.tasks)) row.old row.new
         agenda.old.items agenda.new.items }
@@ -196,30 +214,30 @@ fn ask_all(agenda: &mut Agenda, row: &mut Cursors, core: &Core<'_>, run: u32)
 {
     let _replayed = core.journal();
     for task in 0..core.plan().dag().tasks.len() {
-        ask(agenda, row, core, run, task as u32);
+        add_decision_if_unawaited(agenda, row, core, run, task as u32);
     }
 }
 
 /// Adds the close of a run, where it may be closed now. The core is asked once each task is settled.
-fn ask_close(agenda: &mut Agenda, row: &mut Cursors, core: &Core<'_>, run: u32)
+fn add_close_if_settled(agenda: &mut Agenda, row: &mut Cursors, core: &Core<'_>, run: u32)
     requires { length agenda.old.items + 1 ≤ agenda.old.room }
     ensures asks { Asks core.now run (IsCloseOf run) row.old row.new agenda.old.items
         agenda.new.items }
     ensures len { length agenda.new.items ≤ length agenda.old.items + 1 }
     ensures room { agenda.old.room ≤ agenda.new.room }
 {
-    if row.is_over(core, run) {
+    if row.is_run_settled(core, run) {
         add_close(agenda, core, run);
     }
 }
 
 /// Adds the steps of a run that may come now.
-pub(crate) fn ask_run(agenda: &mut Agenda, row: &mut Cursors, core: &Core<'_>, run: u32)
+pub(crate) fn add_steps_of_run(agenda: &mut Agenda, row: &mut Cursors, core: &Core<'_>, run: u32)
     requires { HasRoom core.now.dag agenda.old.items agenda.old.room }
     ensures { Asks core.now run (IsOfRun run) row.old row.new agenda.old.items agenda.new.items }
 {
-    ask_all(agenda, row, core, run);
-    ask_close(agenda, row, core, run);
+    add_decisions_of_run(agenda, row, core, run);
+    add_close_if_settled(agenda, row, core, run);
 }
 
 /// The tasks below a task.
@@ -235,7 +253,7 @@ fn downstreams<'a>(core: &Core<'a>, task: u32) -> &'a [u32]
 
 /// Adds the steps of the tasks below the one of the news, to which they matter, and the close of its run, where they may
 /// come now.
-fn ask_under(agenda: &mut Agenda, row: &mut Cursors, core: &Core<'_>, news: News)
+fn add_steps_below(agenda: &mut Agenda, row: &mut Cursors, core: &Core<'_>, news: News)
     requires task { news.task < length core.now.dag.tasks }
     requires room { HasRoom core.now.dag agenda.old.items agenda.old.room }
     ensures asks { Asks core.now news.run (IsUnder core.now.dag core.now.state news) row.old row.new
@@ -244,12 +262,18 @@ fn ask_under(agenda: &mut Agenda, row: &mut Cursors, core: &Core<'_>, news: News
         (length core.now.dag.tasks + 1) }
     ensures room { agenda.old.room ≤ agenda.new.room }
 {
-    stir_each(agenda, row, core, news, downstreams(core, news.task));
-    ask_close(agenda, row, core, news.run);
+    add_decisions_by_news(agenda, row, core, news, downstreams(core, news.task));
+    add_close_if_settled(agenda, row, core, news.run);
 }
 
 /// Adds the step that decides a task in a run, where there is such a run and it may be decided now.
-fn ask_in(agenda: &mut Agenda, rows: &mut Vec<Cursors>, core: &Core<'_>, run: u32, task: u32)
+fn add_decision_if_there(
+    agenda: &mut Agenda,
+    rows: &mut Vec<Cursors>,
+    core: &Core<'_>,
+    run: u32,
+    task: u32,
+)
     requires task { task < length core.now.dag.tasks }
     requires rows { length core.now.state.runs ≤ length rows.old.items }
     requires room { length agenda.old.items + 1 ≤ agenda.old.room }
@@ -258,12 +282,12 @@ fn ask_in(agenda: &mut Agenda, rows: &mut Vec<Cursors>, core: &Core<'_>, run: u3
 {
     if (run as usize) < rows.len() {
         let row = &mut rows[run as usize];
-        ask(agenda, row, core, run, task);
+        add_decision_if_unawaited(agenda, row, core, run, task);
     }
 }
 
 /// Adds the steps of a run that may come now, where there is such a run.
-fn ask_opened(agenda: &mut Agenda, rows: &mut Vec<Cursors>, core: &Core<'_>, run: u32)
+fn add_steps_of_opened(agenda: &mut Agenda, rows: &mut Vec<Cursors>, core: &Core<'_>, run: u32)
     requires rows { length core.now.state.runs ≤ length rows.old.items }
     requires room { HasRoom core.now.dag agenda.old.items agenda.old.room }
     ensures { AsksAll core.now (IsOfRun run) rows.old.items rows.new.items agenda.old.items
@@ -271,24 +295,24 @@ fn ask_opened(agenda: &mut Agenda, rows: &mut Vec<Cursors>, core: &Core<'_>, run
 {
     if (run as usize) < rows.len() {
         let row = &mut rows[run as usize];
-        ask_run(agenda, row, core, run);
+        add_steps_of_run(agenda, row, core, run);
     }
 }
 
 /// Adds the steps that news may have made possible: those of the tasks below theirs, the close of its run, and, once it
 /// is settled, that of the same task in the next run.
-fn ask_around(agenda: &mut Agenda, rows: &mut Vec<Cursors>, core: &Core<'_>, news: News)
+fn add_steps_around(agenda: &mut Agenda, rows: &mut Vec<Cursors>, core: &Core<'_>, news: News)
     requires there { IsThere core.now.dag core.now.state news.run news.task }
     requires rows { length core.now.state.runs ≤ length rows.old.items }
     requires room { HasRoom core.now.dag agenda.old.items agenda.old.room }
     ensures { AsksAll core.now (IsAround core.now.dag core.now.state news) rows.old.items
         rows.new.items agenda.old.items agenda.new.items }
 {
-    let _few = core.runs();
+    let _few = core.run_count();
     let row = &mut rows[news.run as usize];
-    ask_under(agenda, row, core, news);
+    add_steps_below(agenda, row, core, news);
     if row.is_settled(core, news.run, news.task) {
-        ask_in(agenda, rows, core, news.run + 1, news.task);
+        add_decision_if_there(agenda, rows, core, news.run + 1, news.task);
     }
 }
 
@@ -300,7 +324,7 @@ fn newest_run(core: &Core<'_>) -> u32
 }
 
 /// Adds the steps that an event may have made possible.
-pub(crate) fn ask_after(
+pub(crate) fn add_steps_after(
     agenda: &mut Agenda,
     rows: &mut Vec<Cursors>,
     core: &Core<'_>,
@@ -314,17 +338,17 @@ pub(crate) fn ask_after(
 {
     match event {
         Event::Settle { run, task } | Event::Expand { run, task } => {
-            ask_around(agenda, rows, core, News::of_decision(core, *run, *task));
+            add_steps_around(agenda, rows, core, News::of_decision(core, *run, *task));
         }
-        Event::End(name, _) => ask_around(agenda, rows, core, News::of_end(core, *name)),
-        Event::Open => ask_opened(agenda, rows, core, newest_run(core)),
+        Event::End(name, _) => add_steps_around(agenda, rows, core, News::of_end(core, *name)),
+        Event::Open => add_steps_of_opened(agenda, rows, core, newest_run(core)),
         Event::Close { .. } => add_open(agenda, core),
         Event::Begin(_) | Event::Tick { .. } => {}
     }
 }
 
 /// Takes out the first steps while they may not come.
-pub(crate) fn clean(agenda: &mut Agenda, core: &Core<'_>)
+pub(crate) fn drop_outdated_steps(agenda: &mut Agenda, core: &Core<'_>)
     ensures { IsPruned core.now agenda.old.items agenda.new.items }
 {
     while let Some(step) = agenda.first() {

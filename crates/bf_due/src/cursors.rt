@@ -5,7 +5,7 @@ ghost use Rattle.bf_core.specs.Events.{IsDecidable, cell_at, value_in};
 ghost use Rattle.bf_core.specs.Cores.{Backfill, MayCome};
 ghost use Rattle.bf_core.specs.declared.event.Event.{Event};
 ghost use Rattle.bf_core.specs.declared.state.Cell.{Cell};
-ghost use Rattle.bf_due.specs.Cursors.{AreFinished, ArePassed, Awaits, IsFinished, IsNoted, is_early_in, lets};
+ghost use Rattle.bf_due.specs.Cursors.{AreFinished, ArePassed, Awaits, IsFinished, IsNoted, has_early_rule_in, lets};
 ghost use Rattle.bf_due.specs.Stirring.{all_settled};
 
 use bf_core::{Cell, Core, Instance, Phase};
@@ -77,11 +77,11 @@ fn upstreams_of<'a>(core: &Core<'a>, task: u32) -> &'a [u32]
 }
 
 /// Whether a task need not wait for all of its upstreams.
-fn is_early(core: &Core<'_>, task: u32) -> bool
+fn has_early_rule(core: &Core<'_>, task: u32) -> bool
     requires { task < length core.now.dag.tasks }
-    ensures { result ≡ is_early_in core.now.dag task }
+    ensures { result ≡ has_early_rule_in core.now.dag task }
 {
-    !core.plan().dag().task(task).rule.waits()
+    !core.plan().dag().task(task).rule.waits_until_settled()
 }
 
 impl Cursors {
@@ -123,7 +123,7 @@ impl Cursors {
     /// Notes that so many upstreams of a task let it be decided.
     fn note_passed(&mut self, task: u32, passed: u32)
         ensures { (b : Backfill) (k : ℕ) → IsNoted b k self.old
-            → ArePassed (is_early_in b.dag task) b.dag b.state k task passed
+            → ArePassed (has_early_rule_in b.dag task) b.dag b.state k task passed
             → IsNoted b k self.new }
     {
         if (task as usize) < self.passed.len() {
@@ -173,7 +173,7 @@ impl Cursors {
     /// Whether nothing more of an upstream is waited for: it is settled, or need not be for who looks early.
     fn lets_decide(&mut self, core: &Core<'_>, run: u32, upstream: u32, early: bool) -> bool
         ensures lets { IsNoted core.now run self.old → result
-            ≡ lets is_early_in core.now.dag core.now.state run upstream }
+            ≡ lets has_early_rule_in core.now.dag core.now.state run upstream }
         ensures reached { IsNoted core.now run self.old → IsNoted core.now run self.new }
     {
         self.is_settled(core, run, upstream) || (early && !core.plan().dag().is_branch(upstream))
@@ -190,11 +190,11 @@ impl Cursors {
     ) -> usize
         requires { task < length core.now.dag.tasks }
         ensures passed { IsNoted core.now run self.old
-            → ArePassed is_early_in core.now.dag core.now.state run task from
-            → ArePassed is_early_in core.now.dag core.now.state run task result }
+            → ArePassed has_early_rule_in core.now.dag core.now.state run task from
+            → ArePassed has_early_rule_in core.now.dag core.now.state run task result }
         ensures awaits { IsNoted core.now run self.old
             → result < length (task_of core.now.dag task).upstreams
-            → Awaits is_early_in core.now.dag core.now.state run task result }
+            → Awaits has_early_rule_in core.now.dag core.now.state run task result }
         ensures reached { IsNoted core.now run self.old → IsNoted core.now run self.new }
         ensures within { result ≤ length (task_of core.now.dag task).upstreams }
     {
@@ -208,7 +208,7 @@ impl Cursors {
     }
 
     /// Whether no upstream of a task keeps it from being decided.
-    pub fn lets_be_decided(&mut self, core: &Core<'_>, run: u32, task: u32) -> bool
+    pub fn is_free_to_decide(&mut self, core: &Core<'_>, run: u32, task: u32) -> bool
         requires { task < length core.now.dag.tasks }
         ensures awaits { IsNoted core.now run self.old → result ≡ false
             → ¬ (IsDecidable core.now.dag core.now.state run task) }
@@ -216,14 +216,14 @@ impl Cursors {
     {
         let upstreams = upstreams_of(core, task);
         let from = number_at(self.passed.as_slice(), task);
-        let early = is_early(core, task);
+        let early = has_early_rule(core, task);
         let passed = self.first_awaited(core, run, task, from as usize, early);
         self.note_passed(task, passed as u32);
         upstreams.len() <= passed
     }
 
     /// Whether each upstream of a task is settled.
-    pub fn are_settled(&mut self, core: &Core<'_>, run: u32, task: u32) -> bool
+    pub fn are_upstreams_settled(&mut self, core: &Core<'_>, run: u32, task: u32) -> bool
         requires { task < length core.now.dag.tasks }
         ensures unsettled { IsNoted core.now run self.old → result ≡ false
             → all_settled core.now.dag core.now.state run task ≡ false }
@@ -237,7 +237,7 @@ impl Cursors {
     }
 
     /// Whether each task is settled.
-    pub fn is_over(&mut self, core: &Core<'_>, run: u32) -> bool
+    pub fn is_run_settled(&mut self, core: &Core<'_>, run: u32) -> bool
         ensures unsettled { IsNoted core.now run self.old → result ≡ false
             → ¬ (MayCome core.now (Event.Close run)) }
         ensures reached { IsNoted core.now run self.old → IsNoted core.now run self.new }

@@ -9,7 +9,7 @@ ghost use Rattle.bf_due.specs.Cursors.{AreNoted};
 ghost use Rattle.bf_due.specs.Dues.{HasAdded, HasRoomForSteps, IsOfRunBelow, IsUpToDate, SpeaksOfTask};
 
 use crate::agenda::Agenda;
-use crate::asking::{add_open, ask_after, ask_run, clean};
+use crate::asking::{add_open, add_steps_after, add_steps_of_run, drop_outdated_steps};
 use crate::cursors::Cursors;
 use bf_core::{Core, Event};
 use bf_value::OutOfMemory;
@@ -46,7 +46,7 @@ impl Model for Due {
 fn is_there(core: &Core<'_>, run: u32, task: u32) -> bool
     ensures { IsTrue result ↔ IsThere core.now.dag core.now.state run task }
 {
-    run < core.runs() && (task as usize) < core.plan().dag().tasks.len()
+    run < core.run_count() && (task as usize) < core.plan().dag().tasks.len()
 }
 
 /// Whether the task that an event decides, or of which a try ends, is there.
@@ -61,10 +61,10 @@ fn speaks_of_task(core: &Core<'_>, event: &Event) -> bool
 }
 
 /// A law: every task has a rank.
-fn ranking(core: &Core<'_>)
+fn tasks_have_ranks(core: &Core<'_>)
     ensures { Ranking (shape_of core.now.dag).upstreams }
 {
-    core.plan().graph().ranks();
+    core.plan().graph().tasks_have_ranks();
 }
 
 /// The steps of the runs that were opened.
@@ -77,19 +77,19 @@ fn steps_of_runs(alloc: Global, core: &Core<'_>) -> Result<Agenda, OutOfMemory>
     for run in 0..core.opened_runs() {
         agenda.make_room(most)?;
         let mut row = Cursors::unknown(alloc);
-        ask_run(&mut agenda, &mut row, core, run);
+        add_steps_of_run(&mut agenda, &mut row, core, run);
     }
     Ok(agenda)
 }
 
 /// How many runs there are.
-fn runs(core: &Core<'_>) -> u32
+fn run_count(core: &Core<'_>) -> u32
     ensures runs { result ≡ core.now.runs }
     ensures rows { length core.now.state.runs ≡ core.now.runs }
     ensures replayed { IsReplay core.now }
 {
     let _replayed = core.journal();
-    core.runs()
+    core.run_count()
 }
 
 /// Makes a row for each run.
@@ -104,7 +104,7 @@ fn make_rows(alloc: Global, rows: &mut Vec<Cursors>, runs: u32) -> Result<(), Ou
 }
 
 /// The run of which an event opens, decides or settles something once it comes.
-fn run_of(core: &Core<'_>, event: &Event) -> Option<u32> {
+fn run_touched_by(core: &Core<'_>, event: &Event) -> Option<u32> {
     match event {
         Event::Open => Some(core.opened_runs()),
         Event::Settle { run, .. } | Event::Expand { run, .. } => Some(*run),
@@ -114,7 +114,7 @@ fn run_of(core: &Core<'_>, event: &Event) -> Option<u32> {
 }
 
 /// Sees to it that something can be noted of the tasks of a run.
-fn prepare(
+fn prepare_row(
     alloc: Global,
     rows: &mut Vec<Cursors>,
     run: u32,
@@ -140,9 +140,9 @@ fn make_rows_for(
     ensures reached { (b : Backfill) → AreNoted b rows.old.items → AreNoted b rows.new.items }
     ensures rows { OnOk result (core.now.runs ≤ length rows.new.items) }
 {
-    make_rows(alloc, rows, runs(core))?;
-    match run_of(core, event) {
-        Some(run) => prepare(alloc, rows, run, core.plan().dag().tasks.len()),
+    make_rows(alloc, rows, run_count(core))?;
+    match run_touched_by(core, event) {
+        Some(run) => prepare_row(alloc, rows, run, core.plan().dag().tasks.len()),
         None => Ok(()),
     }
 }
@@ -164,11 +164,11 @@ impl Due {
         ensures { IfOk result (λ due. IsUpToDate core.now due) }
     {
         let _replayed = core.journal();
-        ranking(core);
+        tasks_have_ranks(core);
         let mut agenda = steps_of_runs(alloc, core)?;
         agenda.make_room(1)?;
         add_open(&mut agenda, core);
-        clean(&mut agenda, core);
+        drop_outdated_steps(&mut agenda, core);
         Ok(Due {
             alloc,
             agenda,
@@ -191,17 +191,17 @@ impl Due {
         ensures { (b : Backfill) → MayCome b event.now → core.now ≡ moved b event.now
             → IsUpToDate b self.old → IsUpToDate core.now self.new }
     {
-        let _runs = runs(core);
+        let _runs = run_count(core);
         if speaks_of_task(core, event) {
-            ask_after(&mut self.agenda, &mut self.progress, core, event);
+            add_steps_after(&mut self.agenda, &mut self.progress, core, event);
             forget_closed(self.alloc, &mut self.progress, event);
-            clean(&mut self.agenda, core);
+            drop_outdated_steps(&mut self.agenda, core);
         }
     }
 
     /// The first step that may come by itself, by kind, and then by run, by rank and in the order of the file: of
     /// whatever backfill it is kept for, just what a look at the whole of it finds.
-    pub fn first(&self) -> Option<Event>
+    pub fn next_step(&self) -> Option<Event>
         ensures { (b : Backfill) → IsUpToDate b self.now → IsNextStep b result }
     {
         let step = self.agenda.first()?;

@@ -1,10 +1,10 @@
 //! What has come of a task by an event, and which rules look for it.
 ghost use Rattle.std.specs.Prelude.{◌≡◌};
 ghost use Rattle.bf_core.specs.Cores.{IsThere};
-ghost use Rattle.bf_due.specs.Stirring.{decided_at, ended_at, finished_in, heard_of_cell, stirs_in};
+ghost use Rattle.bf_due.specs.Stirring.{decided_at, ended_at, finished_in, heard_of_cell, rule_looks_for_in};
 
 use bf_core::{Cell, Core, Phase};
-use bf_rule::{Counts, Rule, fires};
+use bf_rule::{Counts, Rule, is_rule_met};
 use bf_try::Outcome;
 use bf_value::JobName;
 
@@ -17,7 +17,7 @@ pub struct News {
 }
 
 /// What finishes by a decision: a task with instances has not.
-fn counts_of_cell(cell: &Cell) -> Counts
+fn finished_counts_of_cell(cell: &Cell) -> Counts
     ensures { result ≡ heard_of_cell cell.now }
 {
     let mut counts = Counts::NONE;
@@ -31,7 +31,7 @@ fn counts_of_cell(cell: &Cell) -> Counts
 }
 
 /// What finishes by the end of a try: an instance whose try is made again has not.
-fn counts_of_phase(phase: &Phase) -> Counts
+fn finished_counts_of_phase(phase: &Phase) -> Counts
     ensures { result ≡ finished_in phase.now }
 {
     let mut counts = Counts::NONE;
@@ -51,7 +51,7 @@ impl News {
         ensures { result ≡ decided_at core.now.state run task }
     {
         let counts = match core.cell(run, task) {
-            Some(cell) => counts_of_cell(cell),
+            Some(cell) => finished_counts_of_cell(cell),
             None => Counts::NONE,
         };
         News { run, task, counts }
@@ -62,7 +62,7 @@ impl News {
         ensures { result ≡ ended_at core.now.dag core.now.state name }
     {
         let counts = match core.instance(name) {
-            Some(instance) => counts_of_phase(&instance.phase),
+            Some(instance) => finished_counts_of_phase(&instance.phase),
             None => Counts::NONE,
         };
         News {
@@ -74,8 +74,8 @@ impl News {
 }
 
 /// Whether a rule looks for what these have, and not for nothing.
-pub fn stirs(rule: Rule, counts: Counts) -> bool
-    ensures { result ≡ stirs_in rule counts }
+pub fn rule_looks_for(rule: Rule, counts: Counts) -> bool
+    ensures { result ≡ rule_looks_for_in rule counts }
 {
-    fires(rule, &counts) && !fires(rule, &Counts::NONE)
+    is_rule_met(rule, &counts) && !is_rule_met(rule, &Counts::NONE)
 }

@@ -42,16 +42,16 @@ impl<'s, K: Service> Model for Executor<'s, K> {
 }
 
 /// Shows the observer the event that came last.
-fn show<O: Observer>(scheduler: &Scheduler<'_>, observer: &mut O)
+fn show_last_event<O: Observer>(scheduler: &Scheduler<'_>, observer: &mut O)
     ensures { ShowsLast O.shows observer.old observer.new scheduler.now.backfill }
 {
     if let Some(event) = scheduler.journal().last() {
-        observer.saw(event, scheduler.core(), scheduler.running());
+        observer.on_event(event, scheduler.core(), scheduler.running());
     }
 }
 
 /// Lets the clock of the backfill come to the present moment, where that is later than what it shows.
-fn catch_up<C: TimeSource, O: Observer>(
+fn tick_to_present<C: TimeSource, O: Observer>(
     scheduler: &mut Scheduler<'_>,
     watch: &mut Watch<C, O>,
 ) -> Result<(), OutOfMemory>
@@ -62,13 +62,13 @@ fn catch_up<C: TimeSource, O: Observer>(
 {
     let moment = watch.clock.now().min(LAST_MOMENT);
     if scheduler.tick(moment)? {
-        show(scheduler, &mut watch.observer);
+        show_last_event(scheduler, &mut watch.observer);
     }
     Ok(())
 }
 
 /// Ends the try of an answer.
-fn end<C: TimeSource, O: Observer>(
+fn end_answered_try<C: TimeSource, O: Observer>(
     done: Done,
     scheduler: &mut Scheduler<'_>,
     watch: &mut Watch<C, O>,
@@ -78,10 +78,10 @@ fn end<C: TimeSource, O: Observer>(
     ensures shown { HasShown O.shows watch.old.observer watch.new.observer scheduler.old.backfill
         scheduler.new.backfill }
 {
-    catch_up(scheduler, watch)?;
+    tick_to_present(scheduler, watch)?;
     match scheduler.finish(done) {
         Ok(()) => {
-            show(scheduler, &mut watch.observer);
+            show_last_event(scheduler, &mut watch.observer);
             Ok(())
         }
         Err((_, Illegal::OutOfMemory)) => Err(TurnFault::OutOfMemory),
@@ -107,8 +107,8 @@ fn end_at_once<D: AnswerAtOnce, O: Observer>(
 {
     match desk.answer_at_once(ticket) {
         Ok(done) => {
-            scheduler.finish_running(done)?;
-            show(scheduler, observer);
+            scheduler.finish_allowed(done)?;
+            show_last_event(scheduler, observer);
             Ok(None)
         }
         Err(ticket) => Ok(Some(ticket)),
@@ -117,14 +117,14 @@ fn end_at_once<D: AnswerAtOnce, O: Observer>(
 
 impl<'s, K: Service + Send + Sync + 's> Executor<'s, K> {
     /// The executor over these lanes.
-    pub fn of(lanes: Lanes<'s, K>) -> Executor<'s, K>
+    pub fn new(lanes: Lanes<'s, K>) -> Executor<'s, K>
         ensures { result ≡ lanes.entry }
     {
         Executor { lanes }
     }
 
     /// How many lanes there are.
-    pub fn lanes(&self) -> usize
+    pub fn lane_count(&self) -> usize
         ensures { result ≡ length self.now }
     {
         self.lanes.len()
@@ -150,7 +150,7 @@ impl<'s, K: Service + Send + Sync + 's> Executor<'s, K> {
 
     /// Waits for an answer, until a moment where one is given, and ends the try of the answer.
     #[tactic(auto, using(crate::proofs::Turning::gathered_in_step, bf_sched::proofs::Driving::same_driven, crate::proofs::Turning::halted_by, crate::proofs::Shown::still_shown))]
-    fn wait<W: Wait, C: TimeSource, O: Observer>(
+    fn wait_and_end_try<W: Wait, C: TimeSource, O: Observer>(
         &mut self,
         rt: &W,
         until: Option<i64>,
@@ -172,7 +172,7 @@ impl<'s, K: Service + Send + Sync + 's> Executor<'s, K> {
             return Ok(());
         };
         match answer {
-            Answer::Done(done) => end(done, scheduler, watch),
+            Answer::Done(done) => end_answered_try(done, scheduler, watch),
             Answer::Gave(ticket, RunnerFault::GaveUp) => Err(TurnFault::Runner(ticket.name())),
             Answer::Gave(_, RunnerFault::OutOfMemory) => Err(TurnFault::OutOfMemory),
         }
@@ -200,15 +200,15 @@ impl<'s, K: Service + Send + Sync + 's> Executor<'s, K> {
         ensures shown { HasShown O.shows watch.old.observer watch.new.observer
             scheduler.old.backfill scheduler.new.backfill }
     {
-        catch_up(scheduler, watch)?;
+        tick_to_present(scheduler, watch)?;
         match scheduler.next()? {
             Next::Stepped => {
-                show(scheduler, &mut watch.observer);
+                show_last_event(scheduler, &mut watch.observer);
                 Ok(true)
             }
             Next::Go(ticket) => {
-                show(scheduler, &mut watch.observer);
-                let Some(at) = self.lanes.idle() else {
+                show_last_event(scheduler, &mut watch.observer);
+                let Some(at) = self.lanes.first_idle() else {
                     unreachable!()
                 };
                 match end_at_once(desk, ticket, scheduler, &mut watch.observer)? {
@@ -221,11 +221,11 @@ impl<'s, K: Service + Send + Sync + 's> Executor<'s, K> {
             }
             Next::Wait => {
                 let until = scheduler.pending();
-                self.wait(rt, until, scheduler, watch)?;
+                self.wait_and_end_try(rt, until, scheduler, watch)?;
                 Ok(true)
             }
             Next::Until(moment) => {
-                self.wait(rt, Some(moment), scheduler, watch)?;
+                self.wait_and_end_try(rt, Some(moment), scheduler, watch)?;
                 Ok(true)
             }
             Next::Ended => Ok(false),

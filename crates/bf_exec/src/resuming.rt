@@ -7,7 +7,7 @@ ghost use Rattle.bf_core.specs.Events.{entry_in};
 ghost use Rattle.bf_core.specs.Terms.{AreAlike};
 ghost use Rattle.bf_exec.specs.Faults.{MayFail};
 
-use crate::running::run_answered;
+use crate::running::run_with_answers_at_once;
 use crate::watch::{Observer, Watch};
 use bf_core::{BackfillFault, Ended};
 use bf_kept::{Keeping, KeptTries};
@@ -58,5 +58,5 @@ pub fn resume<
     ensures err { IfErr result (MayFail
         (MayGiveUpAnew (K.kept keeping.now.kept.now) (R.may_give_up keeping.now.runner.now))) }
 {
-    run_answered(rt, alloc, plan, runs, workers, keeping, watch)
+    run_with_answers_at_once(rt, alloc, plan, runs, workers, keeping, watch)
 }

@@ -16,7 +16,7 @@ ghost use Rattle.bf_exec.specs.declared.turn_fault.TurnFault.{TurnFault};
 use crate::at_once::{AnswerAtOnce, ByWorkers};
 use crate::executor::Executor;
 use crate::order::{Desk, Order, Shared};
-use crate::starting::{all_fresh, all_started};
+use crate::starting::{all_queues_and_seats, start_lanes};
 use crate::turn_fault::TurnFault;
 use crate::watch::{Observer, Watch};
 use bf_core::{BackfillFault, Core, Ended};
@@ -116,7 +116,7 @@ fn fault_of(halt: TurnFault) -> BackfillFault
 
 /// Starts the workers, drives the backfill, and joins the workers.
 #[tactic(auto, using(crate::proofs::Closing::may_fail))]
-fn in_scope<'s, 'p, K, E, W, D, N, C, O>(
+fn run_in_scope<'s, 'p, K, E, W, D, N, C, O>(
     scope: &Scope<'s, E>,
     rt: &'s W,
     queues: &'s [Queues<K>],
@@ -143,8 +143,8 @@ where
     ensures shown { IfOk result (WasShown O.shows order.now.plan.now.dag (N.runs order.now.runs.now)
         watch.old.observer watch.new.observer) }
 {
-    let lanes = all_started(scope, rt, queues, seats, desk)?;
-    let mut executor = Executor::of(lanes);
+    let lanes = start_lanes(scope, rt, queues, seats, desk)?;
+    let mut executor = Executor::new(lanes);
     let ended = drive(rt, desk, &mut executor, order, watch);
     drop(executor.close(rt));
     match ended {
@@ -175,7 +175,7 @@ where
         (N.runs order.now.runs.now) order.now.workers) }
     ensures fault { IfErr result (MayFail K.gives_up) }
 {
-    let (queues, seats) = all_fresh::<K>(desk.alloc(), order.workers)?;
+    let (queues, seats) = all_queues_and_seats::<K>(desk.alloc(), order.workers)?;
     let rows = queues.as_slice();
     let ended = thread::scope(
         thread::scope_env(),
@@ -190,13 +190,13 @@ where
                 order.entry.now.plan.now.limits (N.runs order.entry.now.runs.now)
                 order.entry.now.workers) }
             ensures fault { IfErr result (MayFail K.gives_up) }
-        { in_scope(scope, rt, rows, seats, desk, order, watch) },
+        { run_in_scope(scope, rt, rows, seats, desk, order, watch) },
     );
     ended
 }
 
 /// The end of a backfill as of `run_backfill`, but that a try which is answered at once is handed to no worker.
-pub(crate) fn run_answered<
+pub(crate) fn run_with_answers_at_once<
     'p,
     W: Threads + Wait + Sync,
     N: RunCount,
@@ -262,5 +262,5 @@ pub fn run_backfill<
     ensures err { IfErr result (MayFail (R.may_give_up runner.now)) }
 {
     let runner = ByWorkers { runner };
-    run_answered(rt, alloc, plan, runs, workers, &runner, watch)
+    run_with_answers_at_once(rt, alloc, plan, runs, workers, &runner, watch)
 }

@@ -7,7 +7,7 @@ ghost use Rattle.bf_exec.specs.Starting.{AreFresh};
 
 use crate::order::Shared;
 use bf_core::BackfillFault;
-use bf_lane::{Lane, Lanes, Queues, Seats, Service, fresh};
+use bf_lane::{Lane, Lanes, Queues, Seats, Service, new_queues_and_seats};
 use bf_try::TaskRunner;
 use bf_value::OutOfMemory;
 use bf_workers::Workers;
@@ -16,7 +16,7 @@ use std::sync::Wait;
 use std::thread::{Scope, Threads};
 
 /// The queues of so many lanes, and their seats.
-pub(crate) fn all_fresh<K: Service>(
+pub(crate) fn all_queues_and_seats<K: Service>(
     alloc: Global,
     workers: Workers,
 ) -> Result<(Vec<Queues<K>>, Vec<Seats<K>>), OutOfMemory>
@@ -28,7 +28,7 @@ pub(crate) fn all_fresh<K: Service>(
     for _made in 0..workers.count() {
         queues.reserve(1)?;
         seats.reserve(1)?;
-        let (queue, seat) = fresh::<K>(alloc)?;
+        let (queue, seat) = new_queues_and_seats::<K>(alloc)?;
         queues.push_reserved(queue);
         seats.push_reserved(seat);
     }
@@ -36,7 +36,7 @@ pub(crate) fn all_fresh<K: Service>(
 }
 
 /// Starts a worker for each lane. Where one can't be started, those that were are stopped, and have ended.
-pub(crate) fn all_started<'s, K, E, W, D>(
+pub(crate) fn start_lanes<'s, K, E, W, D>(
     scope: &Scope<'s, E>,
     rt: &'s W,
     queues: &'s [Queues<K>],

@@ -10,7 +10,7 @@ pub trait Observer {
     ghost shows: { Self → Event → ℕ → Self → Type 0 };
 
     /// This event has come to the backfill, and so many tries run now.
-    fn saw(&mut self, event: &Event, core: &Core<'_>, running: u32)
+    fn on_event(&mut self, event: &Event, core: &Core<'_>, running: u32)
         ensures { shows self.old event.now running self.new };
 }
 
@@ -20,9 +20,9 @@ impl<O: Observer> Observer for Option<O> {
 
     ghost shows = { IsShownTo O.shows };
 
-    fn saw(&mut self, event: &Event, core: &Core<'_>, running: u32) {
+    fn on_event(&mut self, event: &Event, core: &Core<'_>, running: u32) {
         if let Some(observer) = self {
-            observer.saw(event, core, running);
+            observer.on_event(event, core, running);
         }
     }
 }
@@ -34,7 +34,7 @@ pub struct Silent;
 impl Observer for Silent {
     ghost shows = { λ _ _ _ _. Unit {0} };
 
-    fn saw(&mut self, _event: &Event, _core: &Core<'_>, _running: u32) {}
+    fn on_event(&mut self, _event: &Event, _core: &Core<'_>, _running: u32) {}
 }
 
 /// A clock, and an observer.

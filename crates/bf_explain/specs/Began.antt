@@ -8,7 +8,7 @@ use Rattle.bf_report.specs.declared.report.RunReport.{RunReport}
 use Rattle.bf_report.specs.declared.report.Report.{Report}
 use Rattle.bf_reason.specs.Runs.{tasks_in}
 use Rattle.bf_xcom.specs.Pulls.{pushed_by}
-use Rattle.bf_wording.specs.Lists.{listed_of}
+use Rattle.bf_wording.specs.Lists.{name_list_of}
 use Rattle.bf_wording.specs.Values.{value_text_of}
 use Rattle.bf_why.specs.Decided.{id_of}
 use Rattle.bf_roots.specs.declared.step.Began.{Began}
@@ -32,8 +32,8 @@ start_text_of None = []
 start_text_of (Some run) = moment_text run.interval.start.nanosecond
 
 -- where it isn't in this run
-abbrev pub in_the_run_of : Report → ℕ → ℕ → List ℕ
-in_the_run_of report run other =
+abbrev pub other_run_text_of : Report → ℕ → ℕ → List ℕ
+other_run_text_of report run other =
     if other == run then [] else codes " in the run of "
     ++ start_text_of (slice_get report.runs other)
 
@@ -42,21 +42,21 @@ abbrev pub root_text_of : Dag → Report → ℕ → Root → List ℕ
 root_text_of dag report run root =
     id_of dag root.task ++ (codes " "
     ++ (began_text_of root.began (slice_get (tasks_in report root.run) root.task)
-    ++ in_the_run_of report run root.run))
+    ++ other_run_text_of report run root.run))
 
 -- it is in another run, or not directly upstream
-abbrev pub is_far_in : Dag → ℕ → ℕ → Root → Bool
-is_far_in dag run task root =
+abbrev pub is_far_root_in : Dag → ℕ → ℕ → Root → Bool
+is_far_root_in dag run task root =
     not (root.run == run) || not (list_any (λ upstream. upstream == root.task)
     (task_of dag task).upstreams)
 
 abbrev pub far_text : Dag → Report → ℕ → ℕ → Root → List (List ℕ)
 far_text dag report run task root =
-    if is_far_in dag run task root then root_text_of dag report run root ∷ [] else []
+    if is_far_root_in dag run task root then root_text_of dag report run root ∷ [] else []
 
 abbrev pub began_sentence_of : List (List ℕ) → List (List ℕ)
 began_sentence_of names =
-    if length names == 0 then [] else (codes "It began where " ++ (listed_of 5 names ++ codes "."))
+    if length names == 0 then [] else (codes "It began where " ++ (name_list_of 5 names ++ codes "."))
     ∷ []
 
 -- of the roots of a task in a run those that are more than an edge away

@@ -8,7 +8,7 @@ use Rattle.bf_report.specs.declared.report.InstanceReport.{InstanceReport}
 use Rattle.bf_report.specs.declared.report.Pull.{Pull}
 use Rattle.bf_report.specs.declared.report.TaskReport.{TaskReport}
 use Rattle.bf_xcom.specs.Pulls.{pushed_by}
-use Rattle.bf_wording.specs.Numbers.{plural_of}
+use Rattle.bf_wording.specs.Numbers.{count_text_of}
 use Rattle.bf_why.specs.Counted.{counts_text_of}
 use Rattle.bf_why.specs.Decided.{id_of}
 use Rattle.bf_wording.specs.Values.{value_text_of}
@@ -37,7 +37,7 @@ pushed_lines_of instance = value_line (pushed_by instance.result.outcome)
 
 abbrev pub instances_text_of : ℕ → Counts → List ℕ
 instances_text_of instances counts =
-    plural_of instances (codes "instance") ++ (codes ", " ++ counts_text_of counts)
+    count_text_of instances (codes "instance") ++ (codes ", " ++ counts_text_of counts)
 
 -- the state of a task, and of an expanded one that ran how many instances are in each
 abbrev pub state_text_of : Option TaskReport → List ℕ
@@ -51,8 +51,8 @@ state_text_of (Some (TaskReport.Mapped instances)) =
     (counts_of_results_of (map (λ instance. instance.result) instances))
 
 -- how long the longest id is
-abbrev pub widest_of : Dag → List ℕ → ℕ
-widest_of dag tasks = fold (λ width task. max width (length (id_of dag task))) 0 tasks
+abbrev pub id_width_of : Dag → List ℕ → ℕ
+id_width_of dag tasks = fold (λ width task. max width (length (id_of dag task))) 0 tasks
 
 abbrev pub padded_of : ℕ → List ℕ → List ℕ
 padded_of width id = id ++ repeat (width - length id) (32 ∷ [])
@@ -63,4 +63,4 @@ task_line_of dag tasks width task =
 
 -- a line for each of these tasks, with its state
 abbrev pub task_lines_of : Dag → List TaskReport → List ℕ → List (List ℕ)
-task_lines_of dag tasks beside = map (task_line_of dag tasks (widest_of dag beside)) beside
+task_lines_of dag tasks beside = map (task_line_of dag tasks (id_width_of dag beside)) beside

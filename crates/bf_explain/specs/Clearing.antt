@@ -11,10 +11,10 @@ use Rattle.bf_quoted.specs.Lines.{line_of}
 use Rattle.bf_quoted.specs.Words.{quoted}
 use Rattle.bf_roots.specs.declared.step.Root.{Root}
 use Rattle.bf_why.specs.Decided.{id_of}
-use Rattle.bf_wording.specs.Numbers.{plural_of}
+use Rattle.bf_wording.specs.Numbers.{count_text_of}
 use Rattle.bf_explain.specs.declared.clearing.ClearedCount.{ClearedCount}
 use Rattle.bf_explain.specs.declared.paths.Paths.{Paths}
-use Rattle.bf_explain.specs.Began.{in_the_run_of}
+use Rattle.bf_explain.specs.Began.{other_run_text_of}
 use Rattle.bf_explain.specs.Moments.{short_moment_of}
 use Rattle.bf_explain.specs.Sections.{section}
 
@@ -87,13 +87,13 @@ IsCleared dag runs place cleared =
 abbrev pub place_text_of : Dag → Report → ℕ → ℕ → Place → List ℕ
 place_text_of dag report run task place =
     if place.run == run && place.task == task then [] else codes " "
-    ++ (id_of dag place.task ++ in_the_run_of report run place.run)
+    ++ (id_of dag place.task ++ other_run_text_of report run place.run)
 
 abbrev pub clear_heading_of : List ℕ → ClearedCount → List ℕ
 clear_heading_of place cleared =
     codes "clear" ++ (place ++ (codes ", with what follows from it: "
-    ++ (plural_of cleared.tasks (codes "task")
-    ++ (codes " in " ++ plural_of cleared.runs (codes "run")))))
+    ++ (count_text_of cleared.tasks (codes "task")
+    ++ (codes " in " ++ count_text_of cleared.runs (codes "run")))))
 
 abbrev pub clear_section : Paths → Dag → Report → ℕ → ℕ → Place → ClearedCount → List (List ℕ)
 clear_section paths dag report run task place cleared =

@@ -37,15 +37,15 @@ abbrev pub indexes_text_of : List ℕ → List TaskResult → List ℕ
 indexes_text_of state results =
     flat_map (index_text state results) (range_with_len 0 (length results))
 
-abbrev pub width_if_of : ℕ → List ℕ → ℕ
-width_if_of count state = if count == 0 then 0 else length state
+abbrev pub state_width_of : ℕ → List ℕ → ℕ
+state_width_of count state = if count == 0 then 0 else length state
 
 -- the length of the longest state that is there
 abbrev pub states_width_of : Counts → ℕ
 states_width_of counts =
-    max (width_if_of counts.success (codes "success"))
-    (max (width_if_of counts.failed (codes "failed"))
-    (width_if_of counts.skipped (codes "skipped")))
+    max (state_width_of counts.success (codes "success"))
+    (max (state_width_of counts.failed (codes "failed"))
+    (state_width_of counts.skipped (codes "skipped")))
 
 abbrev pub state_line : ℕ → List TaskResult → List ℕ → ℕ → List (List ℕ)
 state_line width results state count =

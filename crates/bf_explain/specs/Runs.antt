@@ -9,10 +9,10 @@ use Rattle.bf_report.specs.Report.{run_state_word_of}
 use Rattle.bf_report.specs.declared.report.TaskReport.{TaskReport}
 use Rattle.bf_report.specs.declared.report.RunReport.{RunReport}
 use Rattle.bf_reason.specs.Settled.{seen_among, value_among}
-use Rattle.bf_wording.specs.Lists.{listed_of}
+use Rattle.bf_wording.specs.Lists.{name_list_of}
 use Rattle.bf_why.specs.Counted.{counts_text_of}
 use Rattle.bf_why.specs.Decided.{have_no_status_of, id_of}
-use Rattle.bf_why.specs.Since.{failures, has_of}
+use Rattle.bf_why.specs.Since.{failures, has_instance_of}
 use Rattle.bf_why.specs.declared.states.States.{States}
 use Rattle.bf_explain.specs.Beside.{task_lines_of}
 use Rattle.bf_explain.specs.Sections.{lines_text_of, section}
@@ -42,14 +42,14 @@ ids_of dag holds tasks = flat_map (λ task. if holds task then id_of dag task �
 
 -- ---- why
 
-abbrev pub are_of : ℕ → List ℕ
-are_of count = if count == 1 then codes "is" else codes "are"
+abbrev pub is_or_are_of : ℕ → List ℕ
+is_or_are_of count = if count == 1 then codes "is" else codes "are"
 
 abbrev pub last_sentence_of : List (List ℕ) → List (List ℕ)
 last_sentence_of names =
     if length names == 0 then []
-    else (listed_of 5 names ++ (codes ", which no task follows, "
-    ++ (are_of (length names) ++ codes " failed or upstream_failed."))) ∷ []
+    else (name_list_of 5 names ++ (codes ", which no task follows, "
+    ++ (is_or_are_of (length names) ++ codes " failed or upstream_failed."))) ∷ []
 
 abbrev pub blocked_sentence_of : List (List ℕ) → List (List ℕ)
 blocked_sentence_of names = if length names == 0 then [] else have_no_status_of names ∷ []
@@ -63,7 +63,7 @@ run_why_of last blocked =
 
 abbrev pub run_why_lines_of : Dag → List TaskReport → List ℕ → List (List ℕ)
 run_why_lines_of dag tasks order =
-    run_why_of (ids_of dag (λ task. is_last_in dag task && has_of tasks failures task) order)
+    run_why_of (ids_of dag (λ task. is_last_in dag task && has_instance_of tasks failures task) order)
     (ids_of dag (λ task. is_blocked_in (value_among tasks task)) order)
 
 -- ---- what came of its tasks
@@ -73,7 +73,7 @@ counts_lines_of tasks order =
     if length order == 0 then [] else counts_text_of (counts_over (seen_among tasks) order) ∷ []
 
 abbrev pub failed_tasks_of : List TaskReport → List ℕ → List ℕ
-failed_tasks_of tasks order = filter (has_of tasks only_failed) order
+failed_tasks_of tasks order = filter (has_instance_of tasks only_failed) order
 
 abbrev pub tasks_not_tried_of : List TaskReport → List ℕ → List ℕ
 tasks_not_tried_of tasks order = filter (λ task. is_not_tried_in (value_among tasks task)) order

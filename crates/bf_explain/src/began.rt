@@ -1,7 +1,7 @@
 //! Where it began, in a sentence.
 ghost use Rattle.std.specs.Prelude.{◌≡◌, ◌<◌, ◌==◌, ◌++◌, IfOk, OnOk, length, option_copied};
 ghost use Rattle.std.specs.List.{flat_map, list_any};
-ghost use Rattle.bf_explain.specs.Began.{began_lines_of, began_sentence_of, began_text_of, far_text, in_the_run_of, is_far_in, pushed_first, root_text_of, start_text_of};
+ghost use Rattle.bf_explain.specs.Began.{began_lines_of, began_sentence_of, began_text_of, far_text, other_run_text_of, is_far_root_in, pushed_first, root_text_of, start_text_of};
 ghost use Rattle.bf_reason.specs.Runs.{tasks_in};
 ghost use Rattle.bf_wording.specs.Values.{value_text_of};
 ghost use Rattle.bf_xcom.specs.Pulls.{pushed_by};
@@ -12,7 +12,7 @@ use bf_report::{InstanceReport, Report, RunReport, TaskReport};
 use bf_roots::{Began, Root};
 use bf_value::{OutOfMemory, Text};
 use bf_why::id_at;
-use bf_wording::{listed, one_line, value_text};
+use bf_wording::{name_list, one_line, value_text};
 use std::alloc::Global;
 
 /// How many characters of a value stand in a sentence.
@@ -45,9 +45,9 @@ fn began_text(alloc: Global, began: Began, told: Option<&TaskReport>) -> Result<
     ensures { IfOk result (λ text. text ≡ began_text_of began (option_copied told.entry)) }
 {
     match began {
-        Began::Failed => Text::copied(alloc, "failed"),
-        Began::Exited => Text::copied(alloc, "exited with 99"),
-        Began::PushedNoItems => Text::copied(alloc, "pushed no items"),
+        Began::Failed => Text::copy_of(alloc, "failed"),
+        Began::Exited => Text::copy_of(alloc, "exited with 99"),
+        Began::PushedNoItems => Text::copy_of(alloc, "pushed no items"),
         Began::Pushed => {
             let value = first_pushed_text(alloc, told)?;
             Ok(Text::new(format!(in alloc; "pushed {value}")?))
@@ -63,21 +63,21 @@ fn start_text(alloc: Global, run: Option<&RunReport>) -> Result<Text, OutOfMemor
             let start = Moment::new(run.interval.start);
             Ok(Text::new(format!(in alloc; "{start}")?))
         }
-        None => Text::copied(alloc, ""),
+        None => Text::copy_of(alloc, ""),
     }
 }
 
 /// Names another run.
-pub(crate) fn in_the_run(
+pub(crate) fn other_run_text(
     alloc: Global,
     report: &Report,
     run: u32,
     other: u32,
 ) -> Result<Text, OutOfMemory>
-    ensures { IfOk result (λ text. text ≡ in_the_run_of report.now run other) }
+    ensures { IfOk result (λ text. text ≡ other_run_text_of report.now run other) }
 {
     if other == run {
-        return Text::copied(alloc, "");
+        return Text::copy_of(alloc, "");
     }
     let start = start_text(alloc, report.runs.get(other as usize))?;
     Ok(Text::new(format!(in alloc; " in the run of {start}")?))
@@ -104,7 +104,7 @@ fn root_text(
     let id = id_at(plan.dag(), root.task);
     let told = tasks_at(report, root.run).get(root.task as usize);
     let began = began_text(alloc, root.began, told)?;
-    let there = in_the_run(alloc, report, run, root.run)?;
+    let there = other_run_text(alloc, report, run, root.run)?;
     Ok(Text::new(format!(in alloc; "{id} {began}{there}")?))
 }
 
@@ -114,15 +114,15 @@ fn is_among(tasks: &[u32], task: u32) -> bool
     tasks.iter().any(|other| *other == task)
 }
 
-fn is_far(plan: &Plan, run: u32, task: u32, root: &Root) -> bool
+fn is_far_root(plan: &Plan, run: u32, task: u32, root: &Root) -> bool
     requires { task < length plan.now.dag.tasks }
-    ensures { result ≡ is_far_in plan.now.dag run task root.now }
+    ensures { result ≡ is_far_root_in plan.now.dag run task root.now }
 {
     let upstreams = plan.dag().task(task).upstreams.as_slice();
     root.run != run || !is_among(upstreams, root.task)
 }
 
-fn add_far(
+fn add_far_root(
     alloc: Global,
     names: &mut Vec<Text>,
     plan: &Plan,
@@ -135,13 +135,13 @@ fn add_far(
     ensures { OnOk result (names.new.items ≡ names.old.items
         ++ far_text plan.now.dag report.now run task root.now) }
 {
-    if is_far(plan, run, task, root) {
+    if is_far_root(plan, run, task, root) {
         names.push(root_text(alloc, plan, report, run, root)?)?;
     }
     Ok(())
 }
 
-fn far_names(
+fn far_root_names(
     alloc: Global,
     plan: &Plan,
     report: &Report,
@@ -155,7 +155,7 @@ fn far_names(
 {
     let mut names = Vec::new(alloc);
     for root in roots {
-        add_far(alloc, &mut names, plan, report, run, task, root)?;
+        add_far_root(alloc, &mut names, plan, report, run, task, root)?;
     }
     Ok(names)
 }
@@ -166,7 +166,7 @@ fn began_sentence(alloc: Global, names: &[Text]) -> Result<Vec<Text>, OutOfMemor
     if names.is_empty() {
         return Ok(Vec::new(alloc));
     }
-    let names = listed(alloc, names)?;
+    let names = name_list(alloc, names)?;
     one_line(
         alloc,
         Text::new(format!(in alloc; "It began where {names}.")?),
@@ -186,6 +186,6 @@ pub(crate) fn began_lines(
     ensures { IfOk result (λ lines. lines.items
         ≡ began_lines_of plan.now.dag report.now run task roots.now) }
 {
-    let names = far_names(alloc, plan, report, run, task, roots)?;
+    let names = far_root_names(alloc, plan, report, run, task, roots)?;
     began_sentence(alloc, names.as_slice())
 }

@@ -1,6 +1,6 @@
 //! The tasks beside a task, with their states.
 ghost use Rattle.std.specs.Prelude.{◌≡◌, ◌∷◌, ◌++◌, [], IfOk, OnOk, Some, option_map, string_bytes};
-ghost use Rattle.bf_explain.specs.Beside.{instances_text_of, padded_of, state_text_of, task_line_of, task_lines_of, widest_of};
+ghost use Rattle.bf_explain.specs.Beside.{instances_text_of, padded_of, state_text_of, task_line_of, task_lines_of, id_width_of};
 ghost use Rattle.bf_why.specs.Decided.{id_of};
 ghost use Rattle.std.specs.List.{repeat};
 ghost use Rattle.bf_report.specs.declared.report.InstanceReport.{InstanceReport};
@@ -12,7 +12,7 @@ use bf_report::TaskReport;
 use bf_rule::Counts;
 use bf_value::{OutOfMemory, Text};
 use bf_why::{counts_text, id_at};
-use bf_wording::plural;
+use bf_wording::count_text;
 use bf_xcom::{Outcome, TaskResult};
 use std::alloc::Global;
 
@@ -40,19 +40,19 @@ fn result_word(results: &[TaskResult]) -> &'static str
 fn instances_text(alloc: Global, instances: usize, counts: &Counts) -> Result<Text, OutOfMemory>
     ensures { IfOk result (λ text. text ≡ instances_text_of instances counts.now) }
 {
-    let instances = plural(alloc, instances as u64, "instance")?;
+    let instances = count_text(alloc, instances as u64, "instance")?;
     let counts = counts_text(alloc, counts)?;
     Ok(Text::new(format!(in alloc; "{instances}, {counts}")?))
 }
 
-fn state_of(alloc: Global, task: &Settled<'_>) -> Result<Text, OutOfMemory>
+fn settled_state_text(alloc: Global, task: &Settled<'_>) -> Result<Text, OutOfMemory>
     ensures { IfOk result (λ text. text ≡ state_text_of (Some task.now)) }
 {
-    match task.told() {
-        TaskReport::NoStatus => Text::copied(alloc, "no_status"),
-        TaskReport::Skipped => Text::copied(alloc, "skipped"),
-        TaskReport::UpstreamFailed => Text::copied(alloc, "upstream_failed"),
-        TaskReport::Ran(_) => Text::copied(alloc, result_word(task.results())),
+    match task.task_report() {
+        TaskReport::NoStatus => Text::copy_of(alloc, "no_status"),
+        TaskReport::Skipped => Text::copy_of(alloc, "skipped"),
+        TaskReport::UpstreamFailed => Text::copy_of(alloc, "upstream_failed"),
+        TaskReport::Ran(_) => Text::copy_of(alloc, result_word(task.results())),
         TaskReport::Mapped(instances) => instances_text(alloc, instances.len(), &task.counts()),
     }
 }
@@ -62,8 +62,8 @@ pub(crate) fn state_text(alloc: Global, task: Option<&Settled<'_>>) -> Result<Te
     ensures { IfOk result (λ text. text ≡ state_text_of (option_map (λ t. t.now) task.entry)) }
 {
     match task {
-        Some(task) => state_of(alloc, task),
-        None => Text::copied(alloc, "no_status"),
+        Some(task) => settled_state_text(alloc, task),
+        None => Text::copy_of(alloc, "no_status"),
     }
 }
 
@@ -92,8 +92,8 @@ fn id_in(plan: &Plan, task: u32) -> &str
 }
 
 /// How long the longest id is.
-fn widest(plan: &Plan, tasks: &[u32]) -> usize
-    ensures { result ≡ widest_of plan.now.dag tasks.now }
+fn id_width(plan: &Plan, tasks: &[u32]) -> usize
+    ensures { result ≡ id_width_of plan.now.dag tasks.now }
 {
     let mut width = 0;
     for task in tasks {
@@ -126,7 +126,7 @@ pub(crate) fn task_lines(
     ensures { IfOk result (λ lines. lines.items
         ≡ task_lines_of plan.now.dag settled.now tasks.now) }
 {
-    let width = widest(plan, tasks);
+    let width = id_width(plan, tasks);
     let mut lines = Vec::with_capacity(alloc, tasks.len())?;
     for task in tasks {
         lines.push(task_line(alloc, plan, settled, width, *task)?)?;

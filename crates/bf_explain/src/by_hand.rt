@@ -90,7 +90,7 @@ fn line_of_words(alloc: Global, words: Vec<String>) -> Result<Text, OutOfMemory>
     Ok(Text::new(line))
 }
 
-fn hand_line(
+fn by_hand_line(
     alloc: Global,
     plan: &Plan,
     report: &RunReport,
@@ -119,7 +119,7 @@ fn hand_line(
     line_of_words(alloc, words)
 }
 
-fn is_told(plan: &Plan, version: Version, task: u32, instance: &InstanceReport) -> bool
+fn is_command_told(plan: &Plan, version: Version, task: u32, instance: &InstanceReport) -> bool
     requires { task < length plan.now.dag.tasks }
     ensures { result ≡ tells_words_in version instance.now (task_of plan.now.dag task).command }
 {
@@ -127,7 +127,7 @@ fn is_told(plan: &Plan, version: Version, task: u32, instance: &InstanceReport) 
 }
 
 /// The line to run the last try of the one instance by hand, where the report tells all its words.
-pub(crate) fn hand_lines(
+pub(crate) fn by_hand_lines(
     alloc: Global,
     plan: &Plan,
     report: &RunReport,
@@ -145,11 +145,11 @@ pub(crate) fn hand_lines(
     let Some(instance) = instance else {
         return Ok(Vec::new(alloc));
     };
-    if !is_told(plan, version, task, instance) {
+    if !is_command_told(plan, version, task, instance) {
         return Ok(Vec::new(alloc));
     }
     one_line(
         alloc,
-        hand_line(alloc, plan, report, run, task, index, instance)?,
+        by_hand_line(alloc, plan, report, run, task, index, instance)?,
     )
 }

@@ -10,7 +10,7 @@ use bf_quoted::{push_line, push_quoted};
 use bf_report::{Report, RunReport};
 use bf_value::{OutOfMemory, Text};
 use bf_why::id_at;
-use bf_wording::{add, add_if};
+use bf_wording::{add_line, add_line_if};
 use std::alloc::Global;
 
 fn begins_with_hyphen(word: &str) -> bool
@@ -35,8 +35,8 @@ fn add_option(
         words.push(Text::new(format!(in alloc; "{name}={word}")?))?;
         return Ok(());
     }
-    add(alloc, words, name)?;
-    add(alloc, words, word)
+    add_line(alloc, words, name)?;
+    add_line(alloc, words, word)
 }
 
 fn add_zone(
@@ -58,9 +58,9 @@ fn add_paths(alloc: Global, words: &mut Vec<Text>, paths: &Paths) -> Result<(), 
 {
     let (graph, report) = (paths.graph.as_str(), paths.report.as_str());
     let hyphen = begins_with_hyphen(graph) || begins_with_hyphen(report);
-    add_if(alloc, words, hyphen, "--")?;
-    add(alloc, words, graph)?;
-    add(alloc, words, report)
+    add_line_if(alloc, words, hyphen, "--")?;
+    add_line(alloc, words, graph)?;
+    add_line(alloc, words, report)
 }
 
 fn short_start(alloc: Global, run: Option<&RunReport>) -> Result<Text, OutOfMemory>
@@ -68,7 +68,7 @@ fn short_start(alloc: Global, run: Option<&RunReport>) -> Result<Text, OutOfMemo
 {
     match run {
         Some(run) => short_moment(alloc, run.interval.start),
-        None => Text::copied(alloc, ""),
+        None => Text::copy_of(alloc, ""),
     }
 }
 
@@ -82,9 +82,9 @@ fn add_range(alloc: Global, words: &mut Vec<Text>, report: &Report) -> Result<()
     ensures { OnOk result (words.new.items ≡ words.old.items ++ range_words report.now) }
 {
     let last = report.runs.len().saturating_sub(1);
-    add(alloc, words, "--from")?;
+    add_line(alloc, words, "--from")?;
     words.push(short_start_at(alloc, report, 0)?)?;
-    add(alloc, words, "--to")?;
+    add_line(alloc, words, "--to")?;
     words.push(short_start_at(alloc, report, last)?)?;
     Ok(())
 }
@@ -100,7 +100,7 @@ fn add_seed(
         ++ seed_words plan.now.dag report.now place) }
 {
     add_option(alloc, words, "--task", id_at(plan.dag(), place.task))?;
-    add(alloc, words, "--run")?;
+    add_line(alloc, words, "--run")?;
     words.push(short_start_at(alloc, report, place.run as usize)?)?;
     Ok(())
 }
@@ -109,8 +109,8 @@ fn first_words(alloc: Global) -> Result<Vec<Text>, OutOfMemory>
     ensures { IfOk result (λ words. words.items ≡ codes "backfill" ∷ codes "clear" ∷ []) }
 {
     let mut words = Vec::new(alloc);
-    add(alloc, &mut words, "backfill")?;
-    add(alloc, &mut words, "clear")?;
+    add_line(alloc, &mut words, "backfill")?;
+    add_line(alloc, &mut words, "clear")?;
     Ok(words)
 }
 
@@ -132,7 +132,7 @@ fn clear_words(
     Ok(words)
 }
 
-fn new_path(alloc: Global, paths: &Paths) -> Result<Text, OutOfMemory>
+fn new_report_path(alloc: Global, paths: &Paths) -> Result<Text, OutOfMemory>
     ensures { IfOk result (λ path. path ≡ paths.now.report ++ codes ".new") }
 {
     let report = paths.report.as_str();
@@ -150,7 +150,7 @@ pub(crate) fn clear_line(
     ensures { IfOk result (λ line. line ≡ clear_line_of paths.now plan.now.dag report.now place) }
 {
     let words = clear_words(alloc, paths, plan, report, place)?;
-    let path = new_path(alloc, paths)?;
+    let path = new_report_path(alloc, paths)?;
     let mut line = String::new(alloc);
     push_line(alloc, &mut line, words.as_slice())?;
     line.push_str(" > ")?;

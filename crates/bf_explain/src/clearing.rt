@@ -3,7 +3,7 @@ ghost use Rattle.std.specs.Prelude.{◌≡◌, ◌<◌, ◌≤◌, ◌++◌, IfO
 ghost use Rattle.bf_explain.specs.Clearing.{AreClearSections, IsClearSection, IsCleared, clear_heading_of, is_of_single_in, last_run_of, place_in, place_text_of, places_to_clear_in, root_places_of};
 ghost use Rattle.bf_explain.specs.Sections.{section};
 
-use crate::began::in_the_run;
+use crate::began::other_run_text;
 use crate::clear_line::clear_line;
 use crate::paths::Paths;
 use crate::sections::add_section;
@@ -13,7 +13,7 @@ use bf_report::{Report, RunReport};
 use bf_roots::Root;
 use bf_value::{OutOfMemory, Text};
 use bf_why::id_at;
-use bf_wording::{add_all, one_line, plural};
+use bf_wording::{add_lines, count_text, one_line};
 use std::alloc::Global;
 
 /// At most of so many places where something began the line is told.
@@ -44,7 +44,7 @@ fn last_run(run: u32, places: &[Place]) -> u32
 }
 
 /// What follows from a task in one of so many runs.
-fn cleared_with(
+fn count_cleared_with(
     alloc: Global,
     plan: &Plan,
     runs: u32,
@@ -73,18 +73,18 @@ fn place_text(
     ensures { IfOk result (λ text. text ≡ place_text_of plan.now.dag report.now run task place) }
 {
     if place.run == run && place.task == task {
-        return Text::copied(alloc, "");
+        return Text::copy_of(alloc, "");
     }
     let id = id_at(plan.dag(), place.task);
-    let there = in_the_run(alloc, report, run, place.run)?;
+    let there = other_run_text(alloc, report, run, place.run)?;
     Ok(Text::new(format!(in alloc; " {id}{there}")?))
 }
 
 fn clear_heading(alloc: Global, place: &Text, cleared: ClearedCount) -> Result<Text, OutOfMemory>
     ensures { IfOk result (λ text. text ≡ clear_heading_of place.now cleared) }
 {
-    let tasks = plural(alloc, cleared.tasks, "task")?;
-    let runs = plural(alloc, cleared.runs, "run")?;
+    let tasks = count_text(alloc, cleared.tasks, "task")?;
+    let runs = count_text(alloc, cleared.runs, "run")?;
     let text = format!(in alloc; "clear{place}, with what follows from it: {tasks} in {runs}")?;
     Ok(Text::new(text))
 }
@@ -115,7 +115,7 @@ fn clear_section(
     if is_of_single(report.runs.get(place.run as usize)) {
         return Ok(lines);
     }
-    let cleared = cleared_with(alloc, plan, report.runs.len() as u32, place)?;
+    let cleared = count_cleared_with(alloc, plan, report.runs.len() as u32, place)?;
     let there = place_text(alloc, plan, report, run, task, place)?;
     let heading = clear_heading(alloc, &there, cleared)?;
     let line = one_line(alloc, clear_line(alloc, paths, plan, report, place)?)?;
@@ -140,7 +140,7 @@ fn clear_sections(
     let mut lines = Vec::new(alloc);
     for place in places {
         let more = clear_section(alloc, paths, plan, report, run, task, *place)?;
-        add_all(&mut lines, more)?;
+        add_lines(&mut lines, more)?;
     }
     Ok(lines)
 }

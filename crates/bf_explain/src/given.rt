@@ -4,7 +4,7 @@ ghost use Rattle.bf_explain.specs.Beside.{given_lines_of, item_lines, pull_line_
 
 use bf_report::{InstanceReport, Pull};
 use bf_value::{OutOfMemory, Text, Xval};
-use bf_wording::{add_text, value_text};
+use bf_wording::{add_moved_line, value_text};
 use std::alloc::Global;
 
 /// How many characters of a value stand in a line of its own.
@@ -18,7 +18,7 @@ fn add_item(alloc: Global, lines: &mut Vec<Text>, item: Option<&Xval>) -> Result
         return Ok(());
     };
     let value = value_text(alloc, Some(item), MOST_CHARACTERS)?;
-    add_text(lines, Text::new(format!(in alloc; "item  {value}")?))
+    add_moved_line(lines, Text::new(format!(in alloc; "item  {value}")?))
 }
 
 fn pull_line(alloc: Global, pull: &Pull) -> Result<Text, OutOfMemory>

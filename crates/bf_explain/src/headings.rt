@@ -69,7 +69,7 @@ fn instance_heading(
 }
 
 /// The first line, of a task in the run of a logical date, or of one instance of an expanded one.
-pub(crate) fn heading(
+pub(crate) fn first_heading(
     alloc: Global,
     id: &str,
     start: Timestamp,
@@ -79,7 +79,7 @@ pub(crate) fn heading(
     requires { IsShown start.nanosecond }
     ensures { IfOk result (λ text. text ≡ heading_of_state id.now start.nanosecond task.now place) }
 {
-    match (task.told(), place) {
+    match (task.task_report(), place) {
         (TaskReport::Mapped(instances), Some(place)) => {
             instance_heading(alloc, id, start, place, instances.get(place))
         }

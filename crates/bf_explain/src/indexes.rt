@@ -2,7 +2,7 @@
 ghost use Rattle.std.specs.Prelude.{◌≡◌, ◌<◌, ◌++◌, IfOk, OnOk, codes, length, option_copied, string_bytes};
 ghost use Rattle.bf_explain.specs.Beside.{padded_of};
 ghost use Rattle.bf_core.specs.Deciding.{counts_of_results_of};
-ghost use Rattle.bf_explain.specs.Indexes.{index_text, indexes_text_of, is_at_index, is_before_index, is_in_state, range_end, state_line, state_lines_of, states_width_of, width_if_of};
+ghost use Rattle.bf_explain.specs.Indexes.{index_text, indexes_text_of, is_at_index, is_before_index, is_in_state, range_end, state_line, state_lines_of, states_width_of, state_width_of};
 
 use crate::beside::{outcome_word, padded};
 use bf_rule::Counts;
@@ -10,7 +10,7 @@ use bf_value::{OutOfMemory, Text};
 use bf_xcom::TaskResult;
 use std::alloc::Global;
 
-fn is_in(state: &str, ended: Option<&TaskResult>) -> bool
+fn has_state(state: &str, ended: Option<&TaskResult>) -> bool
     ensures { result ≡ is_in_state state.now (option_copied ended.entry) }
 {
     match ended {
@@ -19,16 +19,16 @@ fn is_in(state: &str, ended: Option<&TaskResult>) -> bool
     }
 }
 
-fn is_at(state: &str, results: &[TaskResult], index: usize) -> bool
+fn has_state_at(state: &str, results: &[TaskResult], index: usize) -> bool
     ensures { result ≡ is_at_index state.now results.now index }
 {
-    is_in(state, results.get(index))
+    has_state(state, results.get(index))
 }
 
-fn is_before(state: &str, results: &[TaskResult], index: usize) -> bool
+fn has_state_before(state: &str, results: &[TaskResult], index: usize) -> bool
     ensures { result ≡ is_before_index state.now results.now index }
 {
-    index > 0 && is_at(state, results, index - 1)
+    index > 0 && has_state_at(state, results, index - 1)
 }
 
 fn push_range_end(text: &mut String, goes_on: bool, index: usize) -> Result<(), OutOfMemory>
@@ -52,11 +52,11 @@ fn push_index(
     ensures { OnOk result (string_bytes text.new ≡ string_bytes text.old
         ++ index_text state.now results.now index) }
 {
-    if !is_at(state, results, index) {
+    if !has_state_at(state, results, index) {
         return Ok(());
     }
-    if is_before(state, results, index) {
-        return push_range_end(text, is_at(state, results, index + 1), index);
+    if has_state_before(state, results, index) {
+        return push_range_end(text, has_state_at(state, results, index + 1), index);
     }
     write!(text, " {index}")?;
     Ok(())
@@ -72,8 +72,8 @@ fn push_indexes(text: &mut String, state: &str, results: &[TaskResult]) -> Resul
     Ok(())
 }
 
-fn width_if(count: u32, state: &str) -> usize
-    ensures { result ≡ width_if_of count state.now }
+fn state_width(count: u32, state: &str) -> usize
+    ensures { result ≡ state_width_of count state.now }
 {
     if count == 0 { 0 } else { state.len() }
 }
@@ -81,9 +81,9 @@ fn width_if(count: u32, state: &str) -> usize
 fn states_width(counts: &Counts) -> usize
     ensures { result ≡ states_width_of counts.now }
 {
-    let success = width_if(counts.success, "success");
-    let failed = width_if(counts.failed, "failed");
-    let skipped = width_if(counts.skipped, "skipped");
+    let success = state_width(counts.success, "success");
+    let failed = state_width(counts.failed, "failed");
+    let skipped = state_width(counts.skipped, "skipped");
     success.max(failed.max(skipped))
 }
 

@@ -30,5 +30,5 @@ pub(crate) fn short_moment(alloc: Global, moment: Timestamp) -> Result<Text, Out
     let Ok(text) = std::str::from_utf8(without_midnight(&bytes)) else {
         unreachable!();
     };
-    Text::copied(alloc, text)
+    Text::copy_of(alloc, text)
 }

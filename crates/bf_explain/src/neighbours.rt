@@ -30,7 +30,7 @@ fn downstreams(alloc: Global, plan: &Plan, task: u32) -> Result<Vec<u32>, OutOfM
 }
 
 /// Adds the tasks beside a task, with their states in a run.
-pub(crate) fn add_beside(
+pub(crate) fn add_neighbours(
     alloc: Global,
     lines: &mut Vec<Text>,
     plan: &Plan,

@@ -20,13 +20,16 @@ fn instances_lines(
 ) -> Result<Vec<Text>, OutOfMemory>
     ensures { IfOk result (λ lines. lines.items ≡ instances_lines_of told.now place) }
 {
-    match (told.told(), place) {
+    match (told.task_report(), place) {
         (TaskReport::Mapped(_), None) => state_lines(alloc, told.results(), &told.counts()),
         _ => Ok(Vec::new(alloc)),
     }
 }
 
-fn pushed_if(alloc: Global, instance: Option<&InstanceReport>) -> Result<Vec<Text>, OutOfMemory>
+fn optional_pushed_lines(
+    alloc: Global,
+    instance: Option<&InstanceReport>,
+) -> Result<Vec<Text>, OutOfMemory>
     ensures { IfOk result (λ lines. lines.items
         ≡ lines_if pushed_lines_of (option_copied instance.entry)) }
 {
@@ -36,7 +39,10 @@ fn pushed_if(alloc: Global, instance: Option<&InstanceReport>) -> Result<Vec<Tex
     }
 }
 
-fn given_if(alloc: Global, instance: Option<&InstanceReport>) -> Result<Vec<Text>, OutOfMemory>
+fn optional_given_lines(
+    alloc: Global,
+    instance: Option<&InstanceReport>,
+) -> Result<Vec<Text>, OutOfMemory>
     ensures { IfOk result (λ lines. lines.items
         ≡ lines_if given_lines_of (option_copied instance.entry)) }
 {
@@ -47,7 +53,7 @@ fn given_if(alloc: Global, instance: Option<&InstanceReport>) -> Result<Vec<Text
 }
 
 /// Adds what is told of a task alone, or of its instance in this place.
-pub(crate) fn add_own(
+pub(crate) fn add_own_sections(
     alloc: Global,
     lines: &mut Vec<Text>,
     told: &Settled<'_>,
@@ -56,8 +62,8 @@ pub(crate) fn add_own(
     ensures { OnOk result (lines.new.items ≡ lines.old.items ++ own_sections told.now place) }
 {
     let instances = instances_lines(alloc, told, place)?;
-    let pushed = pushed_if(alloc, instance_of(told.told(), place))?;
-    let given = given_if(alloc, instance_of(told.told(), place))?;
+    let pushed = optional_pushed_lines(alloc, instance_of(told.task_report(), place))?;
+    let given = optional_given_lines(alloc, instance_of(told.task_report(), place))?;
     add_section(alloc, lines, "instances", instances.as_slice())?;
     add_section(alloc, lines, "pushed", pushed.as_slice())?;
     add_section(alloc, lines, "given", given.as_slice())

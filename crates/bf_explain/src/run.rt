@@ -14,12 +14,12 @@ use bf_plan::Plan;
 use bf_reason::{Settled, counts_of_upstreams, settled_tasks};
 use bf_report::RunReport;
 use bf_value::{OutOfMemory, Text};
-use bf_why::{States, counts_text, has_in};
+use bf_why::{States, counts_text, has_instance_in};
 use bf_wording::one_line;
 use bf_xcom::{RunState, TaskValue};
 use std::alloc::{AllocError, Global};
 
-fn state_word(state: RunState) -> &'static str
+fn run_state_word(state: RunState) -> &'static str
     ensures { result.now ≡ run_state_word_of state }
 {
     match state {
@@ -33,7 +33,7 @@ fn run_heading(alloc: Global, run: &RunReport) -> Result<Text, OutOfMemory>
 {
     let start = Moment::new(run.interval.start);
     let end = Moment::new(run.interval.end);
-    let state = state_word(run.state);
+    let state = run_state_word(run.state);
     Ok(Text::new(format!(in alloc; "run {start} to {end}: {state}")?))
 }
 
@@ -66,7 +66,7 @@ fn failed_tasks(
     order
         .iter()
         .copied()
-        .filter(|task| has_in(settled, failed, *task))
+        .filter(|task| has_instance_in(settled, failed, *task))
         .collect(alloc)
 }
 

@@ -2,16 +2,16 @@
 ghost use Rattle.std.specs.Prelude.{◌≡◌, ◌==◌, ◌&&◌, ◌++◌, ◌∷◌, [], IfOk, OnOk, if◌then◌else◌, length};
 ghost use Rattle.std.specs.List.{list_any};
 ghost use Rattle.bf_core.specs.Deciding.{is_blocked_in};
-ghost use Rattle.bf_explain.specs.Runs.{are_of, blocked_sentence_of, ids_of, is_last_in, is_upstream_in, last_sentence_of, run_why_of, run_why_lines_of};
+ghost use Rattle.bf_explain.specs.Runs.{is_or_are_of, blocked_sentence_of, ids_of, is_last_in, is_upstream_in, last_sentence_of, run_why_of, run_why_lines_of};
 ghost use Rattle.bf_reason.specs.Settled.{value_among};
 ghost use Rattle.bf_why.specs.Decided.{id_of};
-ghost use Rattle.bf_why.specs.Since.{failures, has_of};
+ghost use Rattle.bf_why.specs.Since.{failures, has_instance_of};
 
 use bf_plan::{Dag, Plan, Task};
 use bf_reason::{Settled, is_blocked};
 use bf_value::{OutOfMemory, Text};
-use bf_why::{States, has_in, id_at, no_status};
-use bf_wording::{add_all, add_if, listed, one_line};
+use bf_why::{States, has_instance_in, id_at, no_status_text};
+use bf_wording::{add_line_if, add_lines, name_list, one_line};
 use std::alloc::Global;
 
 pub(crate) fn is_upstream_of(task: u32, other: &Task) -> bool
@@ -35,12 +35,12 @@ fn has_downstream(dag: &Dag, task: u32) -> bool
 
 /// Whether a task that no task follows is failed or upstream_failed.
 fn is_last_failed(plan: &Plan, settled: &[Settled<'_>], task: u32) -> bool
-    ensures { result ≡ (is_last_in plan.now.dag task && has_of settled.now failures task) }
+    ensures { result ≡ (is_last_in plan.now.dag task && has_instance_of settled.now failures task) }
 {
-    has_in(settled, States::FAILURES, task) && !has_downstream(plan.dag(), task)
+    has_instance_in(settled, States::FAILURES, task) && !has_downstream(plan.dag(), task)
 }
 
-fn add_id(
+fn add_id_if(
     alloc: Global,
     ids: &mut Vec<Text>,
     plan: &Plan,
@@ -50,27 +50,27 @@ fn add_id(
     ensures { OnOk result (ids.new.items ≡ ids.old.items
         ++ (if holds then id_of plan.now.dag task ∷ [] else [])) }
 {
-    add_if(alloc, ids, holds, id_at(plan.dag(), task))
+    add_line_if(alloc, ids, holds, id_at(plan.dag(), task))
 }
 
-fn last_failed(
+fn last_failed_ids(
     alloc: Global,
     plan: &Plan,
     settled: &[Settled<'_>],
     order: &[u32],
 ) -> Result<Vec<Text>, OutOfMemory>
     ensures { IfOk result (λ ids. ids.items ≡ ids_of plan.now.dag
-        (λ task. is_last_in plan.now.dag task && has_of settled.now failures task) order.now) }
+        (λ task. is_last_in plan.now.dag task && has_instance_of settled.now failures task) order.now) }
 {
     let mut ids = Vec::new(alloc);
     for task in order {
         let holds = is_last_failed(plan, settled, *task);
-        add_id(alloc, &mut ids, plan, *task, holds)?;
+        add_id_if(alloc, &mut ids, plan, *task, holds)?;
     }
     Ok(ids)
 }
 
-fn without_status(
+fn ids_without_status(
     alloc: Global,
     plan: &Plan,
     settled: &[Settled<'_>],
@@ -82,13 +82,13 @@ fn without_status(
     let mut ids = Vec::new(alloc);
     for task in order {
         let holds = is_blocked(settled, *task);
-        add_id(alloc, &mut ids, plan, *task, holds)?;
+        add_id_if(alloc, &mut ids, plan, *task, holds)?;
     }
     Ok(ids)
 }
 
-fn are(count: usize) -> &'static str
-    ensures { result.now ≡ are_of count }
+fn is_or_are(count: usize) -> &'static str
+    ensures { result.now ≡ is_or_are_of count }
 {
     if count == 1 { "is" } else { "are" }
 }
@@ -99,8 +99,8 @@ fn last_sentence(alloc: Global, names: &[Text]) -> Result<Vec<Text>, OutOfMemory
     if names.is_empty() {
         return Ok(Vec::new(alloc));
     }
-    let listed = listed(alloc, names)?;
-    let are = are(names.len());
+    let listed = name_list(alloc, names)?;
+    let are = is_or_are(names.len());
     let text = format!(in alloc;
         "{listed}, which no task follows, {are} failed or upstream_failed."
     )?;
@@ -113,21 +113,21 @@ fn blocked_sentence(alloc: Global, names: &[Text]) -> Result<Vec<Text>, OutOfMem
     if names.is_empty() {
         return Ok(Vec::new(alloc));
     }
-    one_line(alloc, no_status(alloc, names)?)
+    one_line(alloc, no_status_text(alloc, names)?)
 }
 
 fn run_why(alloc: Global, last: &[Text], blocked: &[Text]) -> Result<Vec<Text>, OutOfMemory>
     ensures { IfOk result (λ lines. lines.items ≡ run_why_of last.now blocked.now) }
 {
     if last.is_empty() && blocked.is_empty() {
-        let text = Text::copied(
+        let text = Text::copy_of(
             alloc,
             "None of the tasks that no task follows is failed or upstream_failed, and every task has a status.",
         )?;
         return one_line(alloc, text);
     }
     let mut lines = last_sentence(alloc, last)?;
-    add_all(&mut lines, blocked_sentence(alloc, blocked)?)?;
+    add_lines(&mut lines, blocked_sentence(alloc, blocked)?)?;
     Ok(lines)
 }
 
@@ -141,7 +141,7 @@ pub(crate) fn run_why_lines(
     ensures { IfOk result (λ lines. lines.items
         ≡ run_why_lines_of plan.now.dag settled.now order.now) }
 {
-    let last = last_failed(alloc, plan, settled, order)?;
-    let blocked = without_status(alloc, plan, settled, order)?;
+    let last = last_failed_ids(alloc, plan, settled, order)?;
+    let blocked = ids_without_status(alloc, plan, settled, order)?;
     run_why(alloc, last.as_slice(), blocked.as_slice())
 }

@@ -3,7 +3,7 @@ ghost use Rattle.std.specs.Prelude.{◌≡◌, ◌++◌, ◌∷◌, IfOk, OnOk, 
 ghost use Rattle.bf_explain.specs.Sections.{indented_of, lines_text_of, section};
 
 use bf_value::{OutOfMemory, Text};
-use bf_wording::add;
+use bf_wording::add_line;
 use std::alloc::Global;
 
 fn indented(alloc: Global, line: &Text) -> Result<Text, OutOfMemory>
@@ -33,7 +33,7 @@ pub(crate) fn add_section(
     if more.is_empty() {
         return Ok(());
     }
-    add(alloc, lines, heading)?;
+    add_line(alloc, lines, heading)?;
     add_indented(alloc, lines, more)
 }
 

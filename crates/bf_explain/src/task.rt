@@ -8,11 +8,11 @@ ghost use Rattle.bf_reason.specs.Settled.{IsFewTask};
 ghost use Rattle.bf_report.specs.declared.report.TaskReport.{TaskReport};
 ghost use Rattle.bf_why.specs.Decided.{id_of};
 
-use crate::by_hand::{hand_lines, index_of};
+use crate::by_hand::{by_hand_lines, index_of};
 use crate::clearing::clear_lines;
-use crate::headings::{heading, instance_of, place_of};
-use crate::neighbours::add_beside;
-use crate::own::add_own;
+use crate::headings::{first_heading, instance_of, place_of};
+use crate::neighbours::add_neighbours;
+use crate::own::add_own_sections;
 use crate::paths::Paths;
 use crate::sections::{add_section, lines_text};
 use crate::why_section::{roots_if_untried, why_and_where};
@@ -22,11 +22,11 @@ use bf_report::{Report, RunReport};
 use bf_roots::Root;
 use bf_value::{OutOfMemory, Text};
 use bf_why::id_at;
-use bf_wording::{add_all, one_line};
+use bf_wording::{add_lines, one_line};
 use std::alloc::Global;
 
 /// The heading, and why.
-fn first_lines(
+fn heading_and_why_lines(
     alloc: Global,
     plan: &Plan,
     report: &Report,
@@ -49,14 +49,14 @@ fn first_lines(
     let id = id_at(plan.dag(), task);
     let mut lines = one_line(
         alloc,
-        heading(alloc, id, told_run.interval.start, told, place)?,
+        first_heading(alloc, id, told_run.interval.start, told, place)?,
     )?;
     let why = why_and_where(alloc, plan, report, run, settled, task, told, place, roots)?;
     add_section(alloc, &mut lines, "why", why.as_slice())?;
     Ok(lines)
 }
 
-fn lines_on(
+fn explanation_lines(
     alloc: Global,
     paths: &Paths,
     plan: &Plan,
@@ -79,9 +79,9 @@ fn lines_on(
     let place = place_of(index);
     let roots = roots_if_untried(alloc, plan, report, run, task, told)?;
     let roots = roots.as_slice();
-    let instance = instance_of(told.told(), place);
-    let at = index_of(told.told(), index);
-    let hand = hand_lines(
+    let instance = instance_of(told.task_report(), place);
+    let at = index_of(told.task_report(), index);
+    let hand = by_hand_lines(
         alloc,
         plan,
         told_run,
@@ -92,13 +92,13 @@ fn lines_on(
         instance,
     )?;
     let clear = clear_lines(alloc, paths, plan, report, run, task, roots)?;
-    let mut lines = first_lines(
+    let mut lines = heading_and_why_lines(
         alloc, plan, report, run, told_run, settled, task, told, place, roots,
     )?;
-    add_own(alloc, &mut lines, told, place)?;
+    add_own_sections(alloc, &mut lines, told, place)?;
     add_section(alloc, &mut lines, "by hand", hand.as_slice())?;
-    add_beside(alloc, &mut lines, plan, settled, task)?;
-    add_all(&mut lines, clear)?;
+    add_neighbours(alloc, &mut lines, plan, settled, task)?;
+    add_lines(&mut lines, clear)?;
     Ok(lines)
 }
 
@@ -128,7 +128,7 @@ pub fn explain_task(
 {
     let settled = settled_tasks(alloc, told_run.tasks.as_slice())?;
     let told = &settled[task as usize];
-    let lines = lines_on(
+    let lines = explanation_lines(
         alloc, paths, plan, report, run, told_run, &settled, task, told, index,
     )?;
     lines_text(alloc, lines.as_slice())

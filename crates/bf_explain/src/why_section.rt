@@ -14,7 +14,7 @@ use bf_report::{Report, RunReport, TaskReport};
 use bf_roots::{Root, is_tried, roots_of};
 use bf_value::{OutOfMemory, Text};
 use bf_why::why_lines;
-use bf_wording::add_all;
+use bf_wording::add_lines;
 use std::alloc::Global;
 
 fn run_before(report: &Report, run: u32) -> Option<&RunReport>
@@ -84,7 +84,7 @@ pub(crate) fn why_and_where(
     let mut lines = why_lines(
         alloc, plan, settled, before, &earlier, task, cause, told, place,
     )?;
-    add_all(
+    add_lines(
         &mut lines,
         began_lines(alloc, plan, report, run, task, roots)?,
     )?;

@@ -13,7 +13,7 @@ use Rattle.bf_plan.specs.declared.plan.Dag.{Dag}
 use Rattle.bf_try.specs.declared.answers.Exit.{Exit}
 use Rattle.bf_try.specs.declared.answers.Line.{Line}
 use Rattle.bf_try.specs.declared.answers.Raw.{Raw}
-use Rattle.bf_try.specs.Grades.{gives_items_in, is_list_of_items_in, is_short_in, is_source, is_status}
+use Rattle.bf_try.specs.Grades.{gives_items_in, is_list_of_items_in, is_short_value_in, is_source, is_status}
 use Rattle.bf_failure.specs.declared.failure.Failure.{Failure}
 use Rattle.bf_failure.specs.declared.failure.Failure.TheVariants.{Status, Signal, NotStarted, TooMuchOutput, UnreadOutput, NotUtf8, LongValue, NoDownstream, NoItems}
 use Rattle.bf_failure.specs.Causes.{ended, IsCause, Pushes}
@@ -31,7 +31,7 @@ found_first {X = X} p (x ∷ xs) e = by (p x) e (found_first p xs)
 the_cause : (dag : Dag) (task : ℕ) (raw : Raw) (this failure : Failure) → Some this ≡ Some failure → IsCause dag task raw this → IsCause dag task raw failure
 the_cause dag task raw this failure e cause = let same : this ≡ failure = cc in subst (λ (f : Failure). IsCause dag task raw f) same cause
 
-long_cause : (dag : Dag) (task : ℕ) (raw : Raw) (value : Option Xval) → Pushes raw value → is_short_in value ≡ false → IsCause dag task raw LongValue
+long_cause : (dag : Dag) (task : ℕ) (raw : Raw) (value : Option Xval) → Pushes raw value → is_short_value_in value ≡ false → IsCause dag task raw LongValue
 long_cause dag task raw None pushes e = absurd (true≢false e)
 long_cause dag task raw (Some value) pushes e = (value, pushes, leb-false _ _ e)
 
@@ -46,14 +46,14 @@ items_cause dag task raw value pushes gives e =
 
 value_cause : (dag : Dag) (task : ℕ) (raw : Raw) (value : Option Xval) → Pushes raw value → (failure : Failure) → value_failure dag task value ≡ Some failure → IsCause dag task raw failure
 value_cause dag task raw value pushes failure =
-    by (is_short_in value) (is_branch_in (task_of dag task)) (names_downstreams_in (shape_of dag) task value) (gives_items_in dag task) (is_list_of_items_in value) refl refl refl refl refl
+    by (is_short_value_in value) (is_branch_in (task_of dag task)) (names_downstreams_in (shape_of dag) task value) (gives_items_in dag task) (is_list_of_items_in value) refl refl refl refl refl
   where
     no_items : (gives items : Bool) → gives_items_in dag task ≡ gives → is_list_of_items_in value ≡ items → (if gives && not items then Some (NoItems (id_in (first_expanded dag task))) else None) ≡ Some failure → IsCause dag task raw failure
     no_items true false g i e = the_cause dag task raw _ failure e (items_cause dag task raw value pushes g i)
     no_items true true g i e = cc
     no_items false items g i e = cc
 
-    by : (short branch names gives items : Bool) → is_short_in value ≡ short → is_branch_in (task_of dag task) ≡ branch → names_downstreams_in (shape_of dag) task value ≡ names → gives_items_in dag task ≡ gives → is_list_of_items_in value ≡ items
+    by : (short branch names gives items : Bool) → is_short_value_in value ≡ short → is_branch_in (task_of dag task) ≡ branch → names_downstreams_in (shape_of dag) task value ≡ names → gives_items_in dag task ≡ gives → is_list_of_items_in value ≡ items
         → (if not short then Some LongValue else (if branch && not names then Some (NoDownstream (text_in value)) else (if gives && not items then Some (NoItems (id_in (first_expanded dag task))) else None))) ≡ Some failure
         → IsCause dag task raw failure
     by false branch names gives items s b n g i e = the_cause dag task raw LongValue failure e (long_cause dag task raw value pushes s)

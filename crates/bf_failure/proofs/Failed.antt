@@ -10,7 +10,7 @@ use Rattle.bf_xcom.specs.declared.values.Outcome.{Outcome}
 use Rattle.bf_try.specs.declared.answers.Exit.{Exit}
 use Rattle.bf_try.specs.declared.answers.Line.{Line}
 use Rattle.bf_try.specs.declared.answers.Raw.{Raw}
-use Rattle.bf_try.specs.Grades.{gives_items_in, grade_answer, grade_line_of, grade_of, grade_status, grade_value, is_list_of_items_in, is_short_in, is_status}
+use Rattle.bf_try.specs.Grades.{gives_items_in, grade_answer, grade_line_of, grade_of, grade_status, grade_value, is_list_of_items_in, is_short_value_in, is_status}
 use Rattle.bf_failure.specs.declared.failure.Failure.{Failure}
 use Rattle.bf_failure.specs.declared.failure.Failure.TheVariants.{Status, Signal, NotStarted, TooMuchOutput, UnreadOutput, NotUtf8, LongValue, NoDownstream, NoItems}
 use Rattle.bf_failure.specs.Failures.{answer_failure, failure_of, first_expanded, id_in, line_failure, status_failure, text_in, value_failure}
@@ -28,7 +28,7 @@ skipped : Agree None Outcome.Skipped
 skipped = (λ is. cc, λ is. cc)
 
 value_agrees : (dag : Dag) (task : ℕ) (value : Option Xval) → Agree (value_failure dag task value) (grade_value dag task value)
-value_agrees dag task value = by (is_short_in value) (is_branch_in (task_of dag task)) (names_downstreams_in (shape_of dag) task value) (gives_items_in dag task) (is_list_of_items_in value)
+value_agrees dag task value = by (is_short_value_in value) (is_branch_in (task_of dag task)) (names_downstreams_in (shape_of dag) task value) (gives_items_in dag task) (is_list_of_items_in value)
   where
     by : (short branch names gives items : Bool) → Agree
         (if not short then Some LongValue else (if branch && not names then Some (NoDownstream (text_in value)) else (if gives && not items then Some (NoItems (id_in (first_expanded dag task))) else None)))

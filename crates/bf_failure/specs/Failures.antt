@@ -11,7 +11,7 @@ use Rattle.bf_plan.specs.declared.plan.Dag.{Dag}
 use Rattle.bf_try.specs.declared.answers.Exit.{Exit}
 use Rattle.bf_try.specs.declared.answers.Line.{Line}
 use Rattle.bf_try.specs.declared.answers.Raw.{Raw}
-use Rattle.bf_try.specs.Grades.{gives_items_in, is_list_of_items_in, is_short_in, is_source, is_status}
+use Rattle.bf_try.specs.Grades.{gives_items_in, is_list_of_items_in, is_short_value_in, is_source, is_status}
 use Rattle.bf_failure.specs.declared.failure.Failure.{Failure}
 use Rattle.bf_failure.specs.declared.failure.Failure.TheVariants.{Status, Signal, NotStarted, TooMuchOutput, UnreadOutput, NotUtf8, LongValue, NoDownstream, NoItems}
 use Rattle.bf_failure.specs.declared.detail.Detail.{Detail}
@@ -34,7 +34,7 @@ text_in (Some value) = json_of value
 -- why a task may not push this; none where it may
 abbrev pub value_failure : Dag → ℕ → Option Xval → Option Failure
 value_failure dag task value =
-    if not (is_short_in value) then Some LongValue
+    if not (is_short_value_in value) then Some LongValue
     else (if is_branch_in (task_of dag task) && not (names_downstreams_in (shape_of dag) task value)
     then Some (NoDownstream (text_in value))
     else (if gives_items_in dag task && not (is_list_of_items_in value)

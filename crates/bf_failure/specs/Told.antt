@@ -14,21 +14,21 @@ use Rattle.bf_failure.specs.Failures.{detailed, failure_of, failure_text}
 use Rattle.bf_failure.specs.Tried.{IsContextOf, log_of, try_text_of}
 
 -- the log that tells more: standard error of how a program ended, standard output of what it printed
-abbrev pub ending_of : Failure → List ℕ
-ending_of (Status status) = codes ".err"
-ending_of (Signal number) = codes ".err"
-ending_of (NotStarted words) = codes ".err"
-ending_of _ = codes ".out"
+abbrev pub log_ending_of : Failure → List ℕ
+log_ending_of (Status status) = codes ".err"
+log_ending_of (Signal number) = codes ".err"
+log_ending_of (NotStarted words) = codes ".err"
+log_ending_of _ = codes ".out"
 
-abbrev pub see_text_of : Option (List ℕ) → JobContext → Failure → List ℕ
-see_text_of None try failure = []
-see_text_of (Some folder) try failure = codes ", see " ++ log_of folder try (ending_of failure)
+abbrev pub log_hint_text_of : Option (List ℕ) → JobContext → Failure → List ℕ
+log_hint_text_of None try failure = []
+log_hint_text_of (Some folder) try failure = codes ", see " ++ log_of folder try (log_ending_of failure)
 
 -- as `failed: load 2024-02-14T00:00:00Z index 2 try 1: exit status 3, see PATH`, and a line feed
 abbrev pub failed_line_of : Option (List ℕ) → JobContext → Failure → List ℕ
 failed_line_of logs try failure =
     codes "failed: " ++ (try_text_of try
-    ++ (codes ": " ++ (failure_text failure ++ (see_text_of logs try failure ++ codes "\n"))))
+    ++ (codes ": " ++ (failure_text failure ++ (log_hint_text_of logs try failure ++ codes "\n"))))
 
 -- the line of a failed try, as it may be answered
 pub record IsToldLine (may_answer : JobName → Given → Raw

@@ -21,7 +21,7 @@ impl Detail {
     {
         Ok(match self {
             Detail::Signal(number) => Detail::Signal(*number),
-            Detail::NotStarted(words) => Detail::NotStarted(Text::copied(alloc, words.as_str())?),
+            Detail::NotStarted(words) => Detail::NotStarted(Text::copy_of(alloc, words.as_str())?),
         })
     }
 }

@@ -32,7 +32,7 @@ pub enum Failure {
 
 impl Failure {
     /// The same, with what is known beside the raw answer.
-    pub fn detailed(self, detail: Option<Detail>) -> Failure
+    pub fn with_detail(self, detail: Option<Detail>) -> Failure
         ensures { result ≡ detailed self detail }
     {
         match (self, detail) {

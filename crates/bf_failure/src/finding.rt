@@ -4,7 +4,7 @@ ghost use Rattle.std.specs.List.{list_any};
 ghost use Rattle.bf_rule.specs.Branches.{names_downstreams_in};
 ghost use Rattle.bf_plan.specs.Plans.{task_of, shape_of, is_branch_in};
 ghost use Rattle.bf_try.specs.declared.answers.Line.{Line};
-ghost use Rattle.bf_try.specs.Grades.{gives_items_in, is_list_of_items_in, is_short_in, is_source};
+ghost use Rattle.bf_try.specs.Grades.{gives_items_in, is_list_of_items_in, is_short_value_in, is_source};
 ghost use Rattle.bf_failure.specs.Failures.{answer_failure, failure_of, first_expanded, id_in, line_failure, text_in, value_failure};
 
 use crate::failure::Failure;
@@ -17,8 +17,8 @@ use std::alloc::Global;
 /// The status by which a try says that it is skipped.
 const SKIP_STATUS: i32 = 99;
 
-fn is_short(value: &Option<Xval>) -> bool
-    ensures { result ≡ is_short_in value.now }
+fn is_short_value(value: &Option<Xval>) -> bool
+    ensures { result ≡ is_short_value_in value.now }
 {
     match value {
         Some(value) => value.has_text_within(LONGEST_VALUE),
@@ -52,7 +52,7 @@ fn first_expanded_over(dag: &Dag, source: u32) -> Option<&Task>
 }
 
 /// The id of the first task that is expanded over this one, or no text where there is none.
-fn expanded_id(alloc: Global, dag: &Dag, source: u32) -> Result<Text, OutOfMemory>
+fn id_of_first_expanded_over(alloc: Global, dag: &Dag, source: u32) -> Result<Text, OutOfMemory>
     ensures { IfOk result (λ id. id ≡ id_in (first_expanded dag.now source)) }
 {
     match first_expanded_over(dag, source) {
@@ -61,7 +61,7 @@ fn expanded_id(alloc: Global, dag: &Dag, source: u32) -> Result<Text, OutOfMemor
     }
 }
 
-fn has_expanded(dag: &Dag, source: u32) -> bool
+fn is_source_of_some(dag: &Dag, source: u32) -> bool
     ensures { result ≡ list_any (λ t. is_source t.expand source) dag.now.tasks }
 {
     dag.tasks
@@ -74,7 +74,7 @@ fn gives_items(dag: &Dag, task: u32) -> bool
     requires { task < length dag.now.tasks }
     ensures { result ≡ gives_items_in dag.now task }
 {
-    dag.task(task).expand.is_none() && has_expanded(dag, task)
+    dag.task(task).expand.is_none() && is_source_of_some(dag, task)
 }
 
 fn names_no_downstream(plan: &Plan, task: u32, value: &Option<Xval>) -> bool
@@ -102,7 +102,7 @@ fn json_of(alloc: Global, value: &Option<Xval>) -> Result<Text, OutOfMemory>
 }
 
 /// Why the task may not push this.
-fn find_in_value(
+fn find_failure_in_value(
     alloc: Global,
     plan: &Plan,
     task: u32,
@@ -111,19 +111,19 @@ fn find_in_value(
     requires { task < length plan.now.dag.tasks }
     ensures { IfOk result (λ failure. failure ≡ value_failure plan.now.dag task value.now) }
 {
-    if !is_short(value) {
+    if !is_short_value(value) {
         return Ok(Some(Failure::LongValue));
     }
     if names_no_downstream(plan, task, value) {
         return Ok(Some(Failure::NoDownstream(json_of(alloc, value)?)));
     }
     if is_no_list_of_items(plan, task, value) {
-        return Ok(Some(Failure::NoItems(expanded_id(alloc, plan.dag(), task)?)));
+        return Ok(Some(Failure::NoItems(id_of_first_expanded_over(alloc, plan.dag(), task)?)));
     }
     Ok(None)
 }
 
-fn find_in_line(
+fn find_failure_in_line(
     alloc: Global,
     plan: &Plan,
     task: u32,
@@ -133,13 +133,13 @@ fn find_in_line(
     ensures { IfOk result (λ failure. failure ≡ line_failure plan.now.dag task line.now) }
 {
     match read_line(alloc, line) {
-        Ok(value) => find_in_value(alloc, plan, task, &value),
+        Ok(value) => find_failure_in_value(alloc, plan, task, &value),
         Err(LineFault::NotUtf8) => Ok(Some(Failure::NotUtf8)),
         Err(LineFault::OutOfMemory) => Err(OutOfMemory),
     }
 }
 
-fn find_in_exit(
+fn find_failure_in_exit(
     alloc: Global,
     plan: &Plan,
     task: u32,
@@ -152,7 +152,7 @@ fn find_in_exit(
 {
     match exit {
         Exit::Code(SKIP_STATUS) => Ok(None),
-        Exit::Code(0) => find_in_line(alloc, plan, task, line),
+        Exit::Code(0) => find_failure_in_line(alloc, plan, task, line),
         Exit::Code(status) => Ok(Some(Failure::Status(status))),
         Exit::Signal => Ok(Some(Failure::Signal(None))),
         Exit::NotStarted => Ok(Some(Failure::NotStarted(None))),
@@ -172,7 +172,7 @@ pub fn find_failure(
     ensures { IfOk result (λ failure. failure ≡ failure_of plan.now.dag task raw.now) }
 {
     match &raw.line {
-        Line::Bytes(line) => find_in_exit(alloc, plan, task, raw.exit, line.as_slice()),
+        Line::Bytes(line) => find_failure_in_exit(alloc, plan, task, raw.exit, line.as_slice()),
         Line::TooMuch => Ok(Some(Failure::TooMuchOutput)),
         Line::ReadFault => Ok(Some(Failure::UnreadOutput)),
     }

@@ -1,6 +1,6 @@
 //! The line of a failed try.
 ghost use Rattle.std.specs.Prelude.{◌≡◌, IfOk, option_map, string_bytes};
-ghost use Rattle.bf_failure.specs.Told.{ending_of, failed_line_of, see_text_of};
+ghost use Rattle.bf_failure.specs.Told.{log_ending_of, failed_line_of, log_hint_text_of};
 ghost use Rattle.bf_failure.specs.Tried.{try_text_of};
 
 use crate::failure::Failure;
@@ -10,8 +10,8 @@ use bf_words::JobContext;
 use std::alloc::Global;
 
 /// The ending of the log that tells more.
-fn ending(failure: &Failure) -> &'static str
-    ensures { result.now ≡ ending_of failure.now }
+fn log_ending(failure: &Failure) -> &'static str
+    ensures { result.now ≡ log_ending_of failure.now }
 {
     match failure {
         Failure::Status(_) | Failure::Signal(_) | Failure::NotStarted(_) => ".err",
@@ -19,7 +19,7 @@ fn ending(failure: &Failure) -> &'static str
     }
 }
 
-fn see_text(
+fn log_hint_text(
     alloc: Global,
     logs: Option<&str>,
     context: &JobContext<'_>,
@@ -27,12 +27,12 @@ fn see_text(
 ) -> Result<String, OutOfMemory>
     ensures { IfOk result (λ text.
         string_bytes text
-        ≡ see_text_of (option_map (λ l. l.now) logs.entry) context.now failure.now) }
+        ≡ log_hint_text_of (option_map (λ l. l.now) logs.entry) context.now failure.now) }
 {
     let Some(folder) = logs else {
         return Ok(String::new(alloc));
     };
-    let path = log_path(alloc, folder, context, ending(failure))?;
+    let path = log_path(alloc, folder, context, log_ending(failure))?;
     Ok(format!(in alloc; ", see {path}")?)
 }
 
@@ -62,6 +62,6 @@ pub fn failed_line(
         ≡ failed_line_of (option_map (λ l. l.now) logs.entry) context.now failure.now) }
 {
     let name = try_text(alloc, context)?;
-    let see = see_text(alloc, logs, context, failure)?;
+    let see = log_hint_text(alloc, logs, context, failure)?;
     Ok(format!(in alloc; "failed: {name}: {failure}{see}\n")?)
 }

@@ -98,13 +98,18 @@ impl<'a, R: DetailedRunner + Drop, T: Teller + Drop> Telling<'a, R, T> {
         else {
             return Ok(());
         };
-        let line = failed_line(self.alloc, self.logs, &context, &failure.detailed(detail))?;
+        let line = failed_line(
+            self.alloc,
+            self.logs,
+            &context,
+            &failure.with_detail(detail),
+        )?;
         teller.tell(line.as_str());
         Ok(())
     }
 }
 
-fn copied(alloc: Global, detail: &Option<Detail>) -> Result<Option<Detail>, OutOfMemory> {
+fn copy_detail(alloc: Global, detail: &Option<Detail>) -> Result<Option<Detail>, OutOfMemory> {
     match detail {
         Some(detail) => Ok(Some(detail.copy(alloc)?)),
         None => Ok(None),
@@ -129,7 +134,7 @@ impl<'a, R: DetailedRunner + Drop, T: Teller + Drop> DetailedRunner for Telling<
     ) -> Result<(Done, Option<Detail>), (Ticket, RunnerFault)> {
         let (done, detail) = self.runner.run_in_detail(ticket)?;
         if let Some(teller) = &self.teller
-            && let Ok(detail) = copied(self.alloc, &detail)
+            && let Ok(detail) = copy_detail(self.alloc, &detail)
         {
             let _ = self.tell(teller, &done, detail);
         }

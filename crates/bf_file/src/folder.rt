@@ -20,7 +20,7 @@ pub trait Folder {
     ghost failed: { Self → Bool };
 
     /// A new file beside the one of a path, under another name. Nothing stands in it.
-    fn begin(&mut self, alloc: Global, path: &str) -> Result<Self::New, ReplaceFault>
+    fn begin_replacement(&mut self, alloc: Global, path: &str) -> Result<Self::New, ReplaceFault>
         ensures begun { OnOk result (begun self.new ≡ Some path.now) }
         ensures empty { IfOk result (λ new.
             Self.New.calls new ≡ option_map (λ _. []) (placed self.old)) }

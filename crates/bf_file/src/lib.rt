@@ -16,6 +16,6 @@ pub use call::{Call, Placed};
 pub use fault::ReplaceFault;
 pub use folder::Folder;
 pub use laws::{a_path_holds_the_old_or_the_new, a_replaced_path_holds_the_new};
-pub use page::{Page, give_up, replace};
+pub use page::{Page, discard_page, replace_by_page};
 pub use replacement::Replacement;
 pub use stored::{StoredFolder, StoredNew};

@@ -37,7 +37,7 @@ impl<N: Replacement + Drop> Model for Page<N> {
 
 impl<N: Replacement + Drop> Page<N> {
     /// A page over a new file, to which nothing but writes came.
-    pub fn of(new: N) -> Page<N>
+    pub fn new(new: N) -> Page<N>
         requires { only_writes (N.calls new) ≡ true }
         ensures calls { result.calls ≡ N.calls new }
         ensures failures { result.failures ≡ 0 }
@@ -88,7 +88,7 @@ impl<N: Replacement + Drop> Write for Page<N> {
 
 /// Has what was written to a page take the place of the file of the path that was begun, once the disk has it all. Where it can't, the
 /// path holds what it held, and the new file is taken away.
-pub fn replace<F: Folder>(folder: &mut F, page: Page<F::New>) -> Result<(), ReplaceFault>
+pub fn replace_by_page<F: Folder>(folder: &mut F, page: Page<F::New>) -> Result<(), ReplaceFault>
     ensures replaced { OnOk result (HasReplacedBy (F.placed folder.old) (F.placed folder.new)
         (F.begun folder.old) (text_on page)) }
     ensures same { OnErr result (F.placed folder.new ≡ F.placed folder.old) }
@@ -105,7 +105,7 @@ pub fn replace<F: Folder>(folder: &mut F, page: Page<F::New>) -> Result<(), Repl
 }
 
 /// Takes the new file of a page away. Says why a write to it failed, where one did.
-pub fn give_up<F: Folder>(folder: &mut F, page: Page<F::New>) -> ReplaceFault
+pub fn discard_page<F: Folder>(folder: &mut F, page: Page<F::New>) -> ReplaceFault
     ensures same { F.placed folder.new ≡ F.placed folder.old }
     ensures failed { HasHalted 0 page.failures 0 0 → F.failed folder.new ≡ true }
 {

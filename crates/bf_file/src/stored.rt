@@ -40,7 +40,7 @@ impl StoredFolder {
 }
 
 /// One more call, behind the others.
-fn add(calls: &mut Sequence<Call>, call: Call) -> Result<(), ReplaceFault>
+fn add_call(calls: &mut Sequence<Call>, call: Call) -> Result<(), ReplaceFault>
     ensures ok { OnOk result (calls.new ≡ calls.old ++ call ∷ []) }
     ensures err { OnErr result (calls.new ≡ calls.old) }
 {
@@ -56,7 +56,7 @@ fn add_write(alloc: Global, calls: &mut Sequence<Call>, bytes: &[u8]) -> Result<
     ensures err { OnErr result (calls.new ≡ calls.old) }
 {
     let piece = Sequence::from_vec(bytes.to_vec(alloc)?);
-    add(calls, Call::Wrote(piece))?;
+    add_call(calls, Call::Wrote(piece))?;
     Ok(bytes.len())
 }
 
@@ -70,7 +70,7 @@ fn add_placed(
         ≡ placed_with (Some placed.old) (Some path) (Some calls)) }
     ensures err { OnErr result (placed.new ≡ placed.old) }
 {
-    add(&mut calls, Call::Renamed)?;
+    add_call(&mut calls, Call::Renamed)?;
     match placed.push(Placed { path, calls }) {
         Ok(()) => Ok(()),
         Err(_) => Err(ReplaceFault::OutOfMemory),
@@ -91,7 +91,7 @@ impl Replacement for StoredNew {
     }
 
     fn sync(&mut self) -> Result<(), ReplaceFault> {
-        let synced = add(&mut self.calls, Call::Synced);
+        let synced = add_call(&mut self.calls, Call::Synced);
         self.failed = self.failed || synced.is_err();
         synced
     }
@@ -108,8 +108,8 @@ impl Folder for StoredFolder {
 
     ghost failed = { λ f. f.failed };
 
-    fn begin(&mut self, alloc: Global, path: &str) -> Result<StoredNew, ReplaceFault> {
-        let Ok(path) = Text::copied(alloc, path) else {
+    fn begin_replacement(&mut self, alloc: Global, path: &str) -> Result<StoredNew, ReplaceFault> {
+        let Ok(path) = Text::copy_of(alloc, path) else {
             self.failed = true;
             return Err(ReplaceFault::OutOfMemory);
         };

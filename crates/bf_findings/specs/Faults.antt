@@ -11,23 +11,23 @@ use Rattle.bf_findings.specs.Forms.{form_in}
 use Rattle.bf_findings.specs.Judging.{IsWrong}
 use Rattle.bf_findings.specs.Listed.{places_in}
 use Rattle.bf_findings.specs.Shown.{shown_in}
-use Rattle.bf_findings.specs.Names.{meant_of, names_of}
+use Rattle.bf_findings.specs.Names.{meant_name_of, names_of}
 use Rattle.bf_findings.specs.Nearest.{lowered, IsSuggested}
 
 -- what stands at a place
-abbrev pub told_in : DocumentPlace → Option Data → List ℕ
-told_in place None = codes "missing"
-told_in place (Some d) = shown_in place d
+abbrev pub told_value_in : DocumentPlace → Option Data → List ℕ
+told_value_in place None = codes "missing"
+told_value_in place (Some d) = shown_in place d
 
 -- a text that is no longer than an id may be
 abbrev pub of_length_of_id : List ℕ → Option (List ℕ)
 of_length_of_id text = if nat_le (length text) 250 then Some text else None
 
 -- the text at a place for which a name is sought: an unknown key, or what stands there
-abbrev pub asked_in : DocumentPlace → Option Data → Option (List ℕ)
-asked_in (place.OtherKey key) d = of_length_of_id key
-asked_in (place.OtherTaskKey n key) d = of_length_of_id key
-asked_in _ d = option_and_then of_length_of_id (option_and_then as_str d)
+abbrev pub sought_text_in : DocumentPlace → Option Data → Option (List ℕ)
+sought_text_in (place.OtherKey key) d = of_length_of_id key
+sought_text_in (place.OtherTaskKey n key) d = of_length_of_id key
+sought_text_in _ d = option_and_then of_length_of_id (option_and_then as_str d)
 
 abbrev pub IsSuggestionBy : Option (List ℕ) → Data → Form → List ℕ → Option (List ℕ) → Type 0
 IsSuggestionBy (Some name) d form text suggestion = suggestion ≡ Some name
@@ -36,7 +36,7 @@ IsSuggestionBy None d form text suggestion = IsSuggested text (names_of d form) 
 -- what is meant by the text, in whichever case; else the nearest known name, where it is near
 abbrev pub IsSuggestion : Data → Form → List ℕ → Option (List ℕ) → Type 0
 IsSuggestion d form text suggestion =
-    IsSuggestionBy (meant_of form (lowered text)) d form text suggestion
+    IsSuggestionBy (meant_name_of form (lowered text)) d form text suggestion
 
 abbrev pub IsSuggestionFor : Data → Form → Option (List ℕ) → Option (List ℕ) → Type 0
 IsSuggestionFor d form None suggestion = suggestion ≡ None
@@ -46,9 +46,9 @@ IsSuggestionFor d form (Some text) suggestion = IsSuggestion d form text suggest
 pub record IsFault (file : Option (List ℕ)) (d : Data) (fault : Fault) : Type 0 where
   pub form_is : fault.form ≡ form_in d fault.place
   pub wrong : IsWrong file d fault.place fault.form (value_in d fault.place)
-  pub stands_is : fault.stands ≡ told_in fault.place (value_in d fault.place)
+  pub stands_is : fault.stands ≡ told_value_in fault.place (value_in d fault.place)
   pub suggestion_is : IsSuggestionFor d fault.form
-      (asked_in fault.place (value_in d fault.place)) fault.suggestion
+      (sought_text_in fault.place (value_in d fault.place)) fault.suggestion
 
 -- what is wrong at the places of the document: all of it, or a hundred faults
 pub record AreFaults (file : Option (List ℕ)) (d : Data) (faults : List Fault) : Type 0 where

@@ -40,20 +40,20 @@ abbrev pub has_id_in : List ℕ → Data → Bool
 has_id_in id task = is_text id (id_in task)
 
 -- a task has the id
-abbrev pub is_task_in : Data → List ℕ → Bool
-is_task_in d id = list_any (has_id_in id) (tasks_at d)
+abbrev pub is_task_id_in : Data → List ℕ → Bool
+is_task_id_in d id = list_any (has_id_in id) (tasks_at d)
 
 -- one of the first n tasks has the id
-abbrev pub is_task_before_in : Data → ℕ → List ℕ → Bool
-is_task_before_in d n id = list_any (has_id_in id) (take n (tasks_at d))
+abbrev pub is_task_id_before_in : Data → ℕ → List ℕ → Bool
+is_task_id_before_in d n id = list_any (has_id_in id) (take n (tasks_at d))
 
 -- the pools, where an object of them is there
 abbrev pub pools_at : Data → Option Members
 pools_at d = option_and_then as_object (get (codes "pools") d)
 
 -- the default pool, or one that is named
-abbrev pub is_pool_in : Data → List ℕ → Bool
-is_pool_in d name =
+abbrev pub is_pool_name_in : Data → List ℕ → Bool
+is_pool_name_in d name =
     bytes_eq name (codes "default_pool")
     || is_some (option_and_then (get name) (get (codes "pools") d))
 
@@ -64,13 +64,13 @@ abbrev pub text_fits_in : Data → Form → List ℕ → Bool
 text_fits_in d Schedule text = true
 text_fits_in d Zone text = true
 text_fits_in d Id text = is_id_in text
-text_fits_in d (NewId n) text = is_id_in text && not (is_task_before_in d n text)
+text_fits_in d (NewId n) text = is_id_in text && not (is_task_id_before_in d n text)
 text_fits_in d Rule text = is_some (rule_named text)
 text_fits_in d Kind text = is_some (kind_named text)
 text_fits_in d WeightRule text = is_some (weight_rule_named text)
 text_fits_in d Context text = is_some (context_named text)
-text_fits_in d TaskId text = is_task_in d text
-text_fits_in d PoolName text = is_pool_in d text
+text_fits_in d TaskId text = is_task_id_in d text
+text_fits_in d PoolName text = is_pool_name_in d text
 text_fits_in d Word text = nat_le (length text) longest_word
 text_fits_in d _ text = false
 
@@ -85,16 +85,16 @@ is_between_if least most None = false
 is_between_if least most (Some n) = is_between_in least most n
 
 -- a whole number from one to another
-abbrev pub is_whole_in : ℕ → ℕ → Data → Bool
-is_whole_in least most d = is_between_if least most (option_and_then as_i64 (as_number d))
+abbrev pub is_whole_number_between_in : ℕ → ℕ → Data → Bool
+is_whole_number_between_in least most d = is_between_if least most (option_and_then as_i64 (as_number d))
 
 abbrev pub are_at_most : ℕ → Option Items → Bool
 are_at_most most None = false
 are_at_most most (Some ds) = nat_le (length (list_of ds)) most
 
 -- a list of at most so many items
-abbrev pub has_at_most_in : ℕ → Data → Bool
-has_at_most_in most d = are_at_most most (as_array d)
+abbrev pub has_at_most_items_in : ℕ → Data → Bool
+has_at_most_items_in most d = are_at_most most (as_array d)
 
 abbrev pub are_one : Option Members → Bool
 are_one None = false
@@ -106,14 +106,14 @@ is_word_object_in d =
     are_one (as_object d) && list_any (λ key. is_some (get (word_key_name key) d)) word_keys
 
 -- a value that is no text may stand where this form may
-abbrev pub other_fits_in : Form → Data → Bool
-other_fits_in Object d = is_some (as_object d)
-other_fits_in Pools d = is_some (as_object d)
-other_fits_in (Whole least most) d = is_whole_in least most d
-other_fits_in Tasks d = has_at_most_in most_tasks d
-other_fits_in Words d = has_at_most_in most_words d
-other_fits_in Upstreams d = is_some (as_array d)
-other_fits_in Flag d = is_some (as_bool d)
-other_fits_in Word d = is_word_object_in d
-other_fits_in Item d = unwrap_or (as_bool d) false
-other_fits_in _ d = false
+abbrev pub non_text_fits_in : Form → Data → Bool
+non_text_fits_in Object d = is_some (as_object d)
+non_text_fits_in Pools d = is_some (as_object d)
+non_text_fits_in (Whole least most) d = is_whole_number_between_in least most d
+non_text_fits_in Tasks d = has_at_most_items_in most_tasks d
+non_text_fits_in Words d = has_at_most_items_in most_words d
+non_text_fits_in Upstreams d = is_some (as_array d)
+non_text_fits_in Flag d = is_some (as_bool d)
+non_text_fits_in Word d = is_word_object_in d
+non_text_fits_in Item d = unwrap_or (as_bool d) false
+non_text_fits_in _ d = false

@@ -12,7 +12,7 @@ use Rattle.bf_findings.specs.declared.place.DocumentPlace.{DocumentPlace}
 use Rattle.bf_findings.specs.declared.place.DocumentPlace.TheVariants as place
 use Rattle.bf_findings.specs.declared.form.Form.{Form}
 use Rattle.bf_findings.specs.declared.form.Form.TheVariants.{Schedule, Zone}
-use Rattle.bf_findings.specs.Fitting.{text_fits_in, other_fits_in}
+use Rattle.bf_findings.specs.Fitting.{text_fits_in, non_text_fits_in}
 
 -- the text says a schedule that some civil minute matches
 abbrev pub IsSchedule : List ℕ → Type 0
@@ -29,7 +29,7 @@ TextMayStand file d Zone text = IsZoneText text file
 TextMayStand file d form text = text_fits_in d form text ≡ true
 
 abbrev pub MayStandAs : Option (List ℕ) → Data → Form → Data → Option (List ℕ) → Type 0
-MayStandAs file d form value None = other_fits_in form value ≡ true
+MayStandAs file d form value None = non_text_fits_in form value ≡ true
 MayStandAs file d form value (Some text) = TextMayStand file d form text
 
 -- a value may stand where this form may

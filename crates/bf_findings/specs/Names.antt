@@ -43,13 +43,13 @@ context_meant_of s =
     else None))
 
 -- what is meant by a word that this format has under another name
-abbrev pub meant_of : Form → List ℕ → Option (List ℕ)
-meant_of NoGraphKey s = graph_key_meant_of s
-meant_of NoTaskKey s = task_key_meant_of s
-meant_of Rule s = rule_meant_of s
-meant_of Schedule s = schedule_meant_of s
-meant_of Context s = context_meant_of s
-meant_of _ s = None
+abbrev pub meant_name_of : Form → List ℕ → Option (List ℕ)
+meant_name_of NoGraphKey s = graph_key_meant_of s
+meant_name_of NoTaskKey s = task_key_meant_of s
+meant_name_of Rule s = rule_meant_of s
+meant_name_of Schedule s = schedule_meant_of s
+meant_name_of Context s = context_meant_of s
+meant_name_of _ s = None
 
 -- ---- the names that there are
 
@@ -84,13 +84,13 @@ id_known task = option_and_then id_of_text (id_in task)
 abbrev pub ids_of : Data → List (List ℕ)
 ids_of d = filter_map id_known (tasks_at d)
 
-abbrev pub named_pools_of : Members → List (List ℕ)
-named_pools_of no_members = []
-named_pools_of (member name d ms) = cons_option (id_of_text name) (named_pools_of ms)
+abbrev pub pool_names_that_are_ids_of : Members → List (List ℕ)
+pool_names_that_are_ids_of no_members = []
+pool_names_that_are_ids_of (member name d ms) = cons_option (id_of_text name) (pool_names_that_are_ids_of ms)
 
 abbrev pub pools_or_none : Option Members → List (List ℕ)
 pools_or_none None = []
-pools_or_none (Some ms) = named_pools_of ms
+pools_or_none (Some ms) = pool_names_that_are_ids_of ms
 
 -- those whose names are ids, and the default pool
 abbrev pub pool_names_of : Data → List (List ℕ)

@@ -7,22 +7,22 @@ use Rattle.bf_findings.specs.declared.place.DocumentPlace.{DocumentPlace}
 use Rattle.bf_findings.specs.declared.place.DocumentPlace.TheVariants as place
 
 -- the text, or what stands for a long one
-abbrev pub short_of : List ℕ → List ℕ
-short_of text = if nat_lt 260 (length text) then codes "a long text" else text
+abbrev pub shortened_text_of : List ℕ → List ℕ
+shortened_text_of text = if nat_lt 260 (length text) then codes "a long text" else text
 
 abbrev pub is_fraction : Data → Bool
 is_fraction d = unwrap_or (option_map is_float (as_number d)) false
 
 -- a value as JSON, or what it is
-abbrev pub shown_of : Data → List ℕ
-shown_of d =
+abbrev pub shown_value_of : Data → List ℕ
+shown_value_of d =
     if is_some (as_array d) then codes "a list"
     else (if is_some (as_object d) then codes "an object"
-    else (if is_fraction d then codes "a number that isn't whole" else short_of (compact_text d)))
+    else (if is_fraction d then codes "a number that isn't whole" else shortened_text_of (compact_text d)))
 
 -- what stands at a place: of what has no meaning the key, of a pool its name and its slots
 abbrev pub shown_in : DocumentPlace → Data → List ℕ
 shown_in (place.OtherKey key) d = codes "unknown key " ++ compact_text (string key)
 shown_in (place.OtherTaskKey n key) d = codes "unknown key " ++ compact_text (string key)
-shown_in (place.Pool name) d = compact_text (string name) ++ codes ": " ++ shown_of d
-shown_in _ d = shown_of d
+shown_in (place.Pool name) d = compact_text (string name) ++ codes ": " ++ shown_value_of d
+shown_in _ d = shown_value_of d

@@ -1,7 +1,7 @@
 //! What is wrong at the places of a document.
 ghost use Rattle.std.specs.Prelude.{◌≡◌, option_map, IfSome, IfNone, IfOk};
 ghost use Rattle.serde_json.specs.View.{view};
-ghost use Rattle.bf_findings.specs.Faults.{asked_in, told_in, AreFaults, IsFault, IsSuggestion, IsSuggestionFor};
+ghost use Rattle.bf_findings.specs.Faults.{sought_text_in, told_value_in, AreFaults, IsFault, IsSuggestion, IsSuggestionFor};
 ghost use Rattle.bf_findings.specs.Forms.{form_in};
 ghost use Rattle.bf_findings.specs.Judging.{IsWrong};
 ghost use Rattle.bf_findings.specs.Places.{value_in};
@@ -10,8 +10,8 @@ use crate::document::value_at;
 use crate::finding::Fault;
 use crate::form::{Form, form_of};
 use crate::judging::Document;
-use crate::names::{meant, names_for};
-use crate::nearest::suggested;
+use crate::names::{meant_name, names_for};
+use crate::nearest::suggested_name;
 use crate::place::DocumentPlace;
 use crate::places::places_of;
 use crate::shown::shown_at;
@@ -26,19 +26,23 @@ const MOST_FAULTS: usize = 100;
 const LONGEST_NAME: usize = 250;
 
 /// What stands at a place, as it is told.
-fn told(alloc: Global, place: &DocumentPlace, value: Option<&Value>) -> Result<Text, OutOfMemory>
-    ensures { IfOk result (λ t. t ≡ told_in place.now (option_map (λ v. view v.now) value.entry)) }
+fn told_value_at(
+    alloc: Global,
+    place: &DocumentPlace,
+    value: Option<&Value>,
+) -> Result<Text, OutOfMemory>
+    ensures { IfOk result (λ t. t ≡ told_value_in place.now (option_map (λ v. view v.now) value.entry)) }
 {
     match value {
         Some(value) => shown_at(alloc, place, value),
-        None => Text::copied(alloc, "missing"),
+        None => Text::copy_of(alloc, "missing"),
     }
 }
 
 /// The text at a place for which a name is sought: an unknown key, or what stands there.
-fn asked<'a>(place: &'a DocumentPlace, value: Option<&'a Value>) -> Option<&'a str>
+fn sought_text_at<'a>(place: &'a DocumentPlace, value: Option<&'a Value>) -> Option<&'a str>
     ensures { option_map (λ s. s.now) result
-        ≡ asked_in place.entry.now (option_map (λ v. view v.now) value.entry) }
+        ≡ sought_text_in place.entry.now (option_map (λ v. view v.now) value.entry) }
 {
     let text = match place {
         DocumentPlace::OtherKey(key) | DocumentPlace::OtherTaskKey(_, key) => key.as_str(),
@@ -61,12 +65,12 @@ fn suggestion(
     ensures { IfOk result (IsSuggestion (view document.now) form text.now) }
 {
     let lowered = text.to_ascii_lowercase(alloc)?;
-    if let Some(name) = meant(form, lowered.as_str()) {
-        return Ok(Some(Text::copied(alloc, name)?));
+    if let Some(name) = meant_name(form, lowered.as_str()) {
+        return Ok(Some(Text::copy_of(alloc, name)?));
     }
     let names = names_for(alloc, document, form)?;
-    match suggested(alloc, text, names.as_slice())? {
-        Some(name) => Ok(Some(Text::copied(alloc, name)?)),
+    match suggested_name(alloc, text, names.as_slice())? {
+        Some(name) => Ok(Some(Text::copy_of(alloc, name)?)),
         None => Ok(None),
     }
 }
@@ -104,8 +108,8 @@ impl Document<'_> {
         if !self.is_wrong(alloc, &place, form, value)? {
             return Ok(None);
         }
-        let stands = told(alloc, &place, value)?;
-        let suggestion = suggestion_for(alloc, self.value, form, asked(&place, value))?;
+        let stands = told_value_at(alloc, &place, value)?;
+        let suggestion = suggestion_for(alloc, self.value, form, sought_text_at(&place, value))?;
         Ok(Some(Fault {
             place,
             form,

@@ -4,7 +4,7 @@ ghost use Rattle.std.specs.List.{list_any};
 ghost use Rattle.serde_json.specs.View.{view, members_view};
 ghost use Rattle.serde_json.specs.Find.{get};
 ghost use Rattle.bf_findings.specs.Places.{word_key_name, word_keys};
-ghost use Rattle.bf_findings.specs.Fitting.{tasks_at, has_id_in, is_task_in, is_task_before_in, pools_at, is_pool_in, text_fits_in, is_between_in, is_whole_in, has_at_most_in, is_word_object_in, other_fits_in};
+ghost use Rattle.bf_findings.specs.Fitting.{tasks_at, has_id_in, is_task_id_in, is_task_id_before_in, pools_at, is_pool_name_in, text_fits_in, is_between_in, is_whole_number_between_in, has_at_most_items_in, is_word_object_in, non_text_fits_in};
 
 use crate::form::Form;
 use crate::keys::WORD_KEYS;
@@ -45,15 +45,15 @@ fn any_has_id(tasks: &[Value], id: &str) -> bool
     tasks.iter().any(|task| has_id(task, id))
 }
 
-fn is_task(document: &Value, id: &str) -> bool
-    ensures { result ≡ is_task_in (view document.now) id.now }
+fn is_task_id(document: &Value, id: &str) -> bool
+    ensures { result ≡ is_task_id_in (view document.now) id.now }
 {
     any_has_id(tasks_in(document), id)
 }
 
 /// Whether one of the first n tasks has the id.
-fn is_task_before(document: &Value, n: usize, id: &str) -> bool
-    ensures { result ≡ is_task_before_in (view document.now) n id.now }
+fn is_task_id_before(document: &Value, n: usize, id: &str) -> bool
+    ensures { result ≡ is_task_id_before_in (view document.now) n id.now }
 {
     let tasks = tasks_in(document);
     any_has_id(&tasks[..n.min(tasks.len())], id)
@@ -67,8 +67,8 @@ pub(crate) fn pools_in<'a>(document: &'a Value) -> Option<&'a Map<String, Value>
     document.get(GraphKey::Pools.name())?.as_object()
 }
 
-fn is_pool(document: &Value, name: &str) -> bool
-    ensures { result ≡ is_pool_in (view document.now) name.now }
+fn is_pool_name(document: &Value, name: &str) -> bool
+    ensures { result ≡ is_pool_name_in (view document.now) name.now }
 {
     name == DEFAULT_POOL
         || document
@@ -84,13 +84,13 @@ pub(crate) fn text_fits(document: &Value, form: Form, text: &str) -> bool
     match form {
         Form::Schedule | Form::Zone => true,
         Form::Id => is_id(text),
-        Form::NewId(n) => is_id(text) && !is_task_before(document, n, text),
+        Form::NewId(n) => is_id(text) && !is_task_id_before(document, n, text),
         Form::Rule => Rule::named(text).is_some(),
         Form::Kind => TaskKind::named(text).is_some(),
         Form::WeightRule => WeightRule::named(text).is_some(),
         Form::Context => ContextVariable::named(text).is_some(),
-        Form::TaskId => is_task(document, text),
-        Form::PoolName => is_pool(document, text),
+        Form::TaskId => is_task_id(document, text),
+        Form::PoolName => is_pool_name(document, text),
         Form::Word => text.len() <= LONGEST_WORD,
         _ => false,
     }
@@ -102,8 +102,8 @@ fn is_between(least: u32, most: u32, number: i64) -> bool
     i64::from(least) <= number && number <= i64::from(most)
 }
 
-fn is_whole(value: &Value, least: u32, most: u32) -> bool
-    ensures { result ≡ is_whole_in least most (view value.now) }
+fn is_whole_number_between(value: &Value, least: u32, most: u32) -> bool
+    ensures { result ≡ is_whole_number_between_in least most (view value.now) }
 {
     match value.as_i64() {
         Some(number) => is_between(least, most, number),
@@ -112,8 +112,8 @@ fn is_whole(value: &Value, least: u32, most: u32) -> bool
 }
 
 #[tactic(auto, using(crate::proofs::Lists::items_counted))]
-fn has_at_most(value: &Value, most: usize) -> bool
-    ensures { result ≡ has_at_most_in most (view value.now) }
+fn has_at_most_items(value: &Value, most: usize) -> bool
+    ensures { result ≡ has_at_most_items_in most (view value.now) }
 {
     match value.as_array() {
         Some(items) => items.len() <= most,
@@ -140,14 +140,14 @@ fn is_word_object(value: &Value) -> bool
 }
 
 /// Whether a value that is no text may stand where this form may.
-pub(crate) fn other_fits(form: Form, value: &Value) -> bool
-    ensures { result ≡ other_fits_in form (view value.now) }
+pub(crate) fn non_text_fits(form: Form, value: &Value) -> bool
+    ensures { result ≡ non_text_fits_in form (view value.now) }
 {
     match form {
         Form::Object | Form::Pools => value.is_object(),
-        Form::Whole(least, most) => is_whole(value, least, most),
-        Form::Tasks => has_at_most(value, MOST_TASKS),
-        Form::Words => has_at_most(value, MOST_WORDS),
+        Form::Whole(least, most) => is_whole_number_between(value, least, most),
+        Form::Tasks => has_at_most_items(value, MOST_TASKS),
+        Form::Words => has_at_most_items(value, MOST_WORDS),
         Form::Upstreams => value.is_array(),
         Form::Flag => value.is_boolean(),
         Form::Word => is_word_object(value),

@@ -125,7 +125,7 @@ impl fmt::Display for Form {
         if let Form::Whole(least, most) = self {
             return write!(f, "has to be a whole number from {least} to {most}");
         }
-        f.write_str(self.words())
+        f.write_str(self.words_without_bounds())
     }
 }
 
@@ -133,7 +133,7 @@ impl Form {
     ghost use Rattle.bf_findings.specs.Forms.{form_words};
 
     /// The words for what may stand there, but for the bounds of a number.
-    fn words(self) -> &'static str
+    fn words_without_bounds(self) -> &'static str
         ensures { result.now ≡ form_words self }
     {
         match self {

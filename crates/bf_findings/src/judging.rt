@@ -3,7 +3,7 @@ ghost use Rattle.std.specs.Prelude.{◌≡◌, true, false, option_map, IfOk};
 ghost use Rattle.serde_json.specs.View.{view};
 ghost use Rattle.bf_findings.specs.Judging.{IsSchedule, IsZoneText, IsWrong, MayStand, TextMayStand, is_required_in};
 
-use crate::fitting::{other_fits, text_fits};
+use crate::fitting::{non_text_fits, text_fits};
 use crate::form::Form;
 use crate::place::DocumentPlace;
 use bf_cron::{CronFault, CronSpec};
@@ -77,7 +77,7 @@ impl Document<'_> {
     {
         match value.as_str() {
             Some(text) => self.text_may_stand(alloc, form, text),
-            None => Ok(other_fits(form, value)),
+            None => Ok(non_text_fits(form, value)),
         }
     }
 

@@ -60,7 +60,7 @@ fn document_findings(
 
 /// What is wrong in the bytes of a graph file; nothing of those that are too many.
 #[tactic(auto, using(crate::proofs::Files::data_there, crate::proofs::Files::no_data_there))]
-fn found_in(
+fn findings_in_bytes(
     alloc: Global,
     graph: &[u8],
     zone_file: Option<&[u8]>,
@@ -87,7 +87,7 @@ fn found_in(
 
 /// What is found in a graph file that is refused: what is wrong at its places, or else why it is refused.
 #[tactic(auto, using(crate::proofs::PlaceLemmas::still_told))]
-fn told(
+fn findings_of_refused(
     alloc: Global,
     graph: &[u8],
     zone_file: Option<&[u8]>,
@@ -101,7 +101,7 @@ fn told(
     ensures all { IfOk result (λ v. TellsAll graph.now (option_map (λ s. s.now) zone_file.entry)
         v.items) }
 {
-    let mut found = found_in(alloc, graph, zone_file)?;
+    let mut found = findings_in_bytes(alloc, graph, zone_file)?;
     if found.is_empty() {
         found.push(Finding::Refused(refusal))?;
     }
@@ -120,7 +120,7 @@ pub fn findings(
         v.items) }
 {
     match refusal(alloc, graph, zone_file)? {
-        Some(refusal) => told(alloc, graph, zone_file, refusal),
+        Some(refusal) => findings_of_refused(alloc, graph, zone_file, refusal),
         None => Ok(Vec::new(alloc)),
     }
 }

@@ -1,7 +1,7 @@
 //! Known names, and what Airflow calls them.
 ghost use Rattle.std.specs.Prelude.{◌≡◌, map, option_map, IfOk};
 ghost use Rattle.serde_json.specs.View.{view, members_view};
-ghost use Rattle.bf_findings.specs.Names.{graph_key_meant_of, task_key_meant_of, rule_meant_of, schedule_meant_of, context_meant_of, meant_of, id_known, ids_of, named_pools_of, pool_names_of, fixed_names_of, names_of};
+ghost use Rattle.bf_findings.specs.Names.{graph_key_meant_of, task_key_meant_of, rule_meant_of, schedule_meant_of, context_meant_of, meant_name_of, id_known, ids_of, pool_names_that_are_ids_of, pool_names_of, fixed_names_of, names_of};
 
 use crate::fitting::{pools_in, tasks_in};
 use crate::form::Form;
@@ -74,8 +74,8 @@ fn context_meant(name: &str) -> Option<&'static str>
 }
 
 /// What is meant by a word of Airflow's or cron's that this format has under another name.
-pub(crate) fn meant(form: Form, name: &str) -> Option<&'static str>
-    ensures { option_map (λ s. s.now) result ≡ meant_of form name.now }
+pub(crate) fn meant_name(form: Form, name: &str) -> Option<&'static str>
+    ensures { option_map (λ s. s.now) result ≡ meant_name_of form name.now }
 {
     match form {
         Form::NoGraphKey => graph_key_meant(name),
@@ -184,12 +184,12 @@ fn ids_in<'a>(alloc: Global, document: &'a Value) -> Result<Vec<&'a str>, OutOfM
 }
 
 /// The names of pools that are ids.
-fn named_pools<'a>(
+fn pool_names_that_are_ids<'a>(
     alloc: Global,
     pools: &'a Map<String, Value>,
 ) -> Result<Vec<&'a str>, OutOfMemory>
     ensures { IfOk result (λ v. map (λ s. s.now) v.items
-        ≡ named_pools_of (members_view pools.entry.now.entries)) }
+        ≡ pool_names_that_are_ids_of (members_view pools.entry.now.entries)) }
 {
     let mut names = Vec::new(alloc);
     for (name, _slots) in pools.iter() {
@@ -206,7 +206,7 @@ fn pool_names<'a>(alloc: Global, document: &'a Value) -> Result<Vec<&'a str>, Ou
         ≡ pool_names_of (view document.entry.now)) }
 {
     let mut names = match pools_in(document) {
-        Some(pools) => named_pools(alloc, pools)?,
+        Some(pools) => pool_names_that_are_ids(alloc, pools)?,
         None => Vec::new(alloc),
     };
     names.push(DEFAULT_POOL)?;

@@ -7,7 +7,7 @@ use std::alloc::Global;
 use strsim::levenshtein;
 
 /// How many edits lead from a text in lowercase to a name, in whichever case.
-fn distance(alloc: Global, text: &str, name: &str) -> Result<usize, OutOfMemory>
+fn edit_distance(alloc: Global, text: &str, name: &str) -> Result<usize, OutOfMemory>
     ensures { IfOk result (λ n. n ≡ distance_to text.now name.now) }
 {
     let name = name.to_ascii_lowercase(alloc)?;
@@ -44,7 +44,7 @@ fn nearest<'a>(
 {
     let mut best = None;
     for name in names {
-        let distance = distance(alloc, text, name)?;
+        let distance = edit_distance(alloc, text, name)?;
         best = Some(nearer(best, Found { name, distance }));
     }
     Ok(best)
@@ -58,7 +58,7 @@ fn is_near(text: &str, name: &str, distance: usize) -> bool
 }
 
 /// Of the names the first that is nearest to a text, where it is near.
-pub(crate) fn suggested<'a>(
+pub(crate) fn suggested_name<'a>(
     alloc: Global,
     text: &str,
     names: &[&'a str],

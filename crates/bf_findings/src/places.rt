@@ -32,7 +32,7 @@ fn add_other_keys(
 {
     for (key, _value) in graph.iter() {
         if !is_graph_key(key.as_str()) {
-            places.push(DocumentPlace::OtherKey(Text::copied(alloc, key.as_str())?))?;
+            places.push(DocumentPlace::OtherKey(Text::copy_of(alloc, key.as_str())?))?;
         }
     }
     Ok(())
@@ -47,7 +47,7 @@ fn add_pool_names(
         ++ pools_of (members_view pools.now.entries)) }
 {
     for (name, _slots) in pools.iter() {
-        places.push(DocumentPlace::Pool(Text::copied(alloc, name.as_str())?))?;
+        places.push(DocumentPlace::Pool(Text::copy_of(alloc, name.as_str())?))?;
     }
     Ok(())
 }
@@ -87,7 +87,7 @@ fn add_other_task_keys(
 {
     for (key, _value) in task.iter() {
         if !is_task_key(key.as_str()) {
-            let key = Text::copied(alloc, key.as_str())?;
+            let key = Text::copy_of(alloc, key.as_str())?;
             places.push(DocumentPlace::OtherTaskKey(n, key))?;
         }
     }

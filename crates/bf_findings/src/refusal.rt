@@ -14,7 +14,7 @@ pub enum Refusal {
 }
 
 /// What is wrong with a file that is refused when it is read.
-fn reading_words(fault: &ReadFault) -> &'static str
+fn words_of_read_fault(fault: &ReadFault) -> &'static str
     ensures { result.now ≡ why_read fault.now }
 {
     match fault {
@@ -27,7 +27,7 @@ fn reading_words(fault: &ReadFault) -> &'static str
 }
 
 /// What is wrong with a task.
-fn task_words(fault: TaskFault) -> &'static str
+fn words_of_task_fault(fault: TaskFault) -> &'static str
     ensures { result.now ≡ why_task fault }
 {
     match fault {
@@ -45,11 +45,11 @@ fn task_words(fault: TaskFault) -> &'static str
 }
 
 /// What is wrong with a graph that is refused when it is checked.
-fn checking_words(fault: &CheckFault) -> &'static str
+fn words_of_check_fault(fault: &CheckFault) -> &'static str
     ensures { result.now ≡ why_check fault.now }
 {
     match fault {
-        CheckFault::Task(fault, _) => task_words(*fault),
+        CheckFault::Task(fault, _) => words_of_task_fault(*fault),
         CheckFault::Cycle(_) => "each comes after the one before it, and the first after the last",
         CheckFault::BadCron => "the schedule is none",
         CheckFault::NeverFires => "no day matches the schedule",
@@ -66,8 +66,8 @@ impl fmt::Display for Refusal {
 
     fn fmt<W: fmt::Write>(&self, f: &mut fmt::Formatter<W>) -> fmt::Result {
         match self {
-            Refusal::Read(fault) => write!(f, "{fault}: {}", reading_words(fault)),
-            Refusal::Check(fault) => write!(f, "{fault}: {}", checking_words(fault)),
+            Refusal::Read(fault) => write!(f, "{fault}: {}", words_of_read_fault(fault)),
+            Refusal::Check(fault) => write!(f, "{fault}: {}", words_of_check_fault(fault)),
         }
     }
 }

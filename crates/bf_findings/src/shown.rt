@@ -3,7 +3,7 @@ ghost use Rattle.std.specs.Prelude.{◌≡◌, ◌++◌, codes, string_bytes, If
 ghost use Rattle.serde_json.specs.View.{view};
 ghost use Rattle.serde_json.specs.Data.{string};
 ghost use Rattle.serde_json.specs.Written.{compact_text};
-ghost use Rattle.bf_findings.specs.Shown.{shown_of, short_of, shown_in};
+ghost use Rattle.bf_findings.specs.Shown.{shown_value_of, shortened_text_of, shown_in};
 
 use crate::place::DocumentPlace;
 use bf_value::{OutOfMemory, Text};
@@ -14,7 +14,7 @@ use std::alloc::Global;
 const MOST_SHOWN: usize = 260;
 
 /// A text as JSON.
-pub(crate) fn quoted(alloc: Global, text: &str) -> Result<Text, OutOfMemory>
+pub(crate) fn json_text_of(alloc: Global, text: &str) -> Result<Text, OutOfMemory>
     ensures { IfOk result (λ t. t ≡ compact_text (string text.now)) }
 {
     let value = Value::String(String::from_str(alloc, text)?);
@@ -22,46 +22,46 @@ pub(crate) fn quoted(alloc: Global, text: &str) -> Result<Text, OutOfMemory>
 }
 
 /// The text, or what stands for a long one.
-fn short(alloc: Global, text: String) -> Result<Text, OutOfMemory>
-    ensures { IfOk result (λ t. t ≡ short_of (string_bytes text)) }
+fn shortened_text(alloc: Global, text: String) -> Result<Text, OutOfMemory>
+    ensures { IfOk result (λ t. t ≡ shortened_text_of (string_bytes text)) }
 {
     if text.len() > MOST_SHOWN {
-        return Text::copied(alloc, "a long text");
+        return Text::copy_of(alloc, "a long text");
     }
     Ok(Text::new(text))
 }
 
 /// A value as JSON, or what it is.
 #[tactic(auto, using(crate::proofs::Plain::no_float))]
-fn shown(alloc: Global, value: &Value) -> Result<Text, OutOfMemory>
-    ensures { IfOk result (λ t. t ≡ shown_of (view value.now)) }
+fn shown_value(alloc: Global, value: &Value) -> Result<Text, OutOfMemory>
+    ensures { IfOk result (λ t. t ≡ shown_value_of (view value.now)) }
 {
     if value.is_array() {
-        return Text::copied(alloc, "a list");
+        return Text::copy_of(alloc, "a list");
     }
     if value.is_object() {
-        return Text::copied(alloc, "an object");
+        return Text::copy_of(alloc, "an object");
     }
     if value.is_f64() {
-        return Text::copied(alloc, "a number that isn't whole");
+        return Text::copy_of(alloc, "a number that isn't whole");
     }
-    short(alloc, value.to_string(alloc)?)
+    shortened_text(alloc, value.to_string(alloc)?)
 }
 
 /// A key that has no meaning.
-fn unknown_key(alloc: Global, key: &str) -> Result<Text, OutOfMemory>
+fn shown_unknown_key(alloc: Global, key: &str) -> Result<Text, OutOfMemory>
     ensures { IfOk result (λ t. t ≡ codes "unknown key " ++ compact_text (string key.now)) }
 {
-    let key = quoted(alloc, key)?;
+    let key = json_text_of(alloc, key)?;
     Ok(Text::new(format!(in alloc; "unknown key {key}")?))
 }
 
 /// The name of a pool and its slots.
-fn pool_shown(alloc: Global, name: &str, value: &Value) -> Result<Text, OutOfMemory>
+fn shown_pool(alloc: Global, name: &str, value: &Value) -> Result<Text, OutOfMemory>
     ensures { IfOk result (λ t. t ≡ compact_text (string name.now) ++ codes ": "
-        ++ shown_of (view value.now)) }
+        ++ shown_value_of (view value.now)) }
 {
-    let (name, slots) = (quoted(alloc, name)?, shown(alloc, value)?);
+    let (name, slots) = (json_text_of(alloc, name)?, shown_value(alloc, value)?);
     Ok(Text::new(format!(in alloc; "{name}: {slots}")?))
 }
 
@@ -74,11 +74,11 @@ pub(crate) fn shown_at(
     ensures { IfOk result (λ t. t ≡ shown_in place.now (view value.now)) }
 {
     match place {
-        DocumentPlace::OtherKey(key) | DocumentPlace::OtherTaskKey(_, key) => unknown_key(
+        DocumentPlace::OtherKey(key) | DocumentPlace::OtherTaskKey(_, key) => shown_unknown_key(
             alloc,
             key.as_str(),
         ),
-        DocumentPlace::Pool(name) => pool_shown(alloc, name.as_str(), value),
-        _ => shown(alloc, value),
+        DocumentPlace::Pool(name) => shown_pool(alloc, name.as_str(), value),
+        _ => shown_value(alloc, value),
     }
 }

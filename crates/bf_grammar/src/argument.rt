@@ -30,7 +30,7 @@ pub(crate) fn optional_positional<'a>(
 }
 
 /// An option with a value.
-pub(crate) fn option<'a>(
+pub(crate) fn option_with_value<'a>(
     alloc: Global,
     id: &'a str,
     long: &'a str,
@@ -59,22 +59,22 @@ pub(crate) fn required_option<'a>(
 }
 
 /// An option with a value, which may be given several times.
-fn repeated<'a>(alloc: Global, id: &'a str, value: &'a str, help: &'a str) -> Arg<'a>
+fn repeated_option<'a>(alloc: Global, id: &'a str, value: &'a str, help: &'a str) -> Arg<'a>
     ensures { rule_of result ≡ repeated_rule id.entry.now }
 {
-    option(alloc, id, id, value, help).action(ArgAction::Append)
+    option_with_value(alloc, id, id, value, help).action(ArgAction::Append)
 }
 
-pub(crate) fn graph<'a>(alloc: Global) -> Arg<'a>
+pub(crate) fn graph_argument<'a>(alloc: Global) -> Arg<'a>
     ensures { rule_of result ≡ graph_rule }
 {
     positional(alloc, "graph", "GRAPH", "The task graph, a JSON file")
 }
 
-pub(crate) fn zone_file<'a>(alloc: Global) -> Arg<'a>
+pub(crate) fn zone_file_option<'a>(alloc: Global) -> Arg<'a>
     ensures { rule_of result ≡ zone_file_rule }
 {
-    option(
+    option_with_value(
         alloc,
         "zone_file",
         "zone-file",
@@ -83,7 +83,7 @@ pub(crate) fn zone_file<'a>(alloc: Global) -> Arg<'a>
     )
 }
 
-pub(crate) fn explain<'a>(alloc: Global) -> Arg<'a>
+pub(crate) fn explain_flag<'a>(alloc: Global) -> Arg<'a>
     ensures { rule_of result ≡ explain_rule }
 {
     Arg::new(alloc, "explain")
@@ -94,7 +94,7 @@ pub(crate) fn explain<'a>(alloc: Global) -> Arg<'a>
         .action(ArgAction::SetTrue)
 }
 
-pub(crate) fn table<'a>(alloc: Global) -> Arg<'a>
+pub(crate) fn table_argument<'a>(alloc: Global) -> Arg<'a>
     ensures { rule_of result ≡ table_rule }
 {
     positional(
@@ -105,10 +105,10 @@ pub(crate) fn table<'a>(alloc: Global) -> Arg<'a>
     )
 }
 
-pub(crate) fn from<'a>(alloc: Global) -> Arg<'a>
+pub(crate) fn from_option<'a>(alloc: Global) -> Arg<'a>
     ensures { rule_of result ≡ from_rule }
 {
-    option(
+    option_with_value(
         alloc,
         "from",
         "from",
@@ -117,10 +117,10 @@ pub(crate) fn from<'a>(alloc: Global) -> Arg<'a>
     )
 }
 
-pub(crate) fn to<'a>(alloc: Global) -> Arg<'a>
+pub(crate) fn to_option<'a>(alloc: Global) -> Arg<'a>
     ensures { rule_of result ≡ to_rule }
 {
-    option(
+    option_with_value(
         alloc,
         "to",
         "to",
@@ -129,10 +129,10 @@ pub(crate) fn to<'a>(alloc: Global) -> Arg<'a>
     )
 }
 
-pub(crate) fn on<'a>(alloc: Global) -> Arg<'a>
+pub(crate) fn on_option<'a>(alloc: Global) -> Arg<'a>
     ensures { rule_of result ≡ on_rule }
 {
-    option(
+    option_with_value(
         alloc,
         "on",
         "on",
@@ -141,7 +141,7 @@ pub(crate) fn on<'a>(alloc: Global) -> Arg<'a>
     )
 }
 
-pub(crate) fn some<'a>(alloc: Global) -> Arg<'a>
+pub(crate) fn some_flag<'a>(alloc: Global) -> Arg<'a>
     ensures { rule_of result ≡ some_rule }
 {
     Arg::new(alloc, "some")
@@ -150,10 +150,10 @@ pub(crate) fn some<'a>(alloc: Global) -> Arg<'a>
         .action(ArgAction::SetTrue)
 }
 
-pub(crate) fn workers<'a>(alloc: Global) -> Arg<'a>
+pub(crate) fn workers_option<'a>(alloc: Global) -> Arg<'a>
     ensures { rule_of result ≡ workers_rule }
 {
-    option(
+    option_with_value(
         alloc,
         "workers",
         "workers",
@@ -163,7 +163,7 @@ pub(crate) fn workers<'a>(alloc: Global) -> Arg<'a>
     .value_parser(value_parser!(u32).range(1..=i64::from(MOST_WORKERS)))
 }
 
-pub(crate) fn progress<'a>(alloc: Global) -> Arg<'a>
+pub(crate) fn progress_flag<'a>(alloc: Global) -> Arg<'a>
     ensures { rule_of result ≡ progress_rule }
 {
     Arg::new(alloc, "progress")
@@ -172,10 +172,10 @@ pub(crate) fn progress<'a>(alloc: Global) -> Arg<'a>
         .action(ArgAction::SetTrue)
 }
 
-pub(crate) fn out<'a>(alloc: Global) -> Arg<'a>
+pub(crate) fn out_option<'a>(alloc: Global) -> Arg<'a>
     ensures { rule_of result ≡ out_rule }
 {
-    option(
+    option_with_value(
         alloc,
         "out",
         "out",
@@ -184,10 +184,10 @@ pub(crate) fn out<'a>(alloc: Global) -> Arg<'a>
     )
 }
 
-pub(crate) fn keep<'a>(alloc: Global) -> Arg<'a>
+pub(crate) fn keep_option<'a>(alloc: Global) -> Arg<'a>
     ensures { rule_of result ≡ keep_rule }
 {
-    option(
+    option_with_value(
         alloc,
         "keep",
         "keep",
@@ -196,10 +196,10 @@ pub(crate) fn keep<'a>(alloc: Global) -> Arg<'a>
     )
 }
 
-pub(crate) fn launcher<'a>(alloc: Global) -> Arg<'a>
+pub(crate) fn launcher_option<'a>(alloc: Global) -> Arg<'a>
     ensures { rule_of result ≡ launcher_rule }
 {
-    option(
+    option_with_value(
         alloc,
         "launcher",
         "launcher",
@@ -208,10 +208,10 @@ pub(crate) fn launcher<'a>(alloc: Global) -> Arg<'a>
     )
 }
 
-pub(crate) fn logs<'a>(alloc: Global) -> Arg<'a>
+pub(crate) fn logs_option<'a>(alloc: Global) -> Arg<'a>
     ensures { rule_of result ≡ logs_rule }
 {
-    option(
+    option_with_value(
         alloc,
         "logs",
         "logs",
@@ -220,10 +220,10 @@ pub(crate) fn logs<'a>(alloc: Global) -> Arg<'a>
     )
 }
 
-pub(crate) fn journal<'a>(alloc: Global) -> Arg<'a>
+pub(crate) fn journal_option<'a>(alloc: Global) -> Arg<'a>
     ensures { rule_of result ≡ journal_rule }
 {
-    option(
+    option_with_value(
         alloc,
         "journal",
         "journal",
@@ -232,10 +232,10 @@ pub(crate) fn journal<'a>(alloc: Global) -> Arg<'a>
     )
 }
 
-pub(crate) fn stop_after<'a>(alloc: Global) -> Arg<'a>
+pub(crate) fn stop_after_option<'a>(alloc: Global) -> Arg<'a>
     ensures { rule_of result ≡ stop_after_rule }
 {
-    option(
+    option_with_value(
         alloc,
         "stop_after",
         "stop-after",
@@ -245,7 +245,7 @@ pub(crate) fn stop_after<'a>(alloc: Global) -> Arg<'a>
     .value_parser(value_parser!(u32).range(1..))
 }
 
-pub(crate) fn retry_failed<'a>(alloc: Global) -> Arg<'a>
+pub(crate) fn retry_failed_flag<'a>(alloc: Global) -> Arg<'a>
     ensures { rule_of result ≡ retry_failed_rule }
 {
     Arg::new(alloc, "retry_failed")
@@ -254,7 +254,7 @@ pub(crate) fn retry_failed<'a>(alloc: Global) -> Arg<'a>
         .action(ArgAction::SetTrue)
 }
 
-pub(crate) fn quiet<'a>(alloc: Global) -> Arg<'a>
+pub(crate) fn quiet_flag<'a>(alloc: Global) -> Arg<'a>
     ensures { rule_of result ≡ quiet_rule }
 {
     Arg::new(alloc, "quiet")
@@ -263,10 +263,10 @@ pub(crate) fn quiet<'a>(alloc: Global) -> Arg<'a>
         .action(ArgAction::SetTrue)
 }
 
-pub(crate) fn task<'a>(alloc: Global) -> Arg<'a>
+pub(crate) fn task_option<'a>(alloc: Global) -> Arg<'a>
     ensures { rule_of result ≡ task_rule }
 {
-    repeated(
+    repeated_option(
         alloc,
         "task",
         "ID",
@@ -274,10 +274,10 @@ pub(crate) fn task<'a>(alloc: Global) -> Arg<'a>
     )
 }
 
-pub(crate) fn run<'a>(alloc: Global) -> Arg<'a>
+pub(crate) fn run_option<'a>(alloc: Global) -> Arg<'a>
     ensures { rule_of result ≡ run_rule }
 {
-    repeated(
+    repeated_option(
         alloc,
         "run",
         "T",
@@ -285,10 +285,10 @@ pub(crate) fn run<'a>(alloc: Global) -> Arg<'a>
     )
 }
 
-pub(crate) fn index<'a>(alloc: Global) -> Arg<'a>
+pub(crate) fn index_option<'a>(alloc: Global) -> Arg<'a>
     ensures { rule_of result ≡ index_rule }
 {
-    repeated(
+    repeated_option(
         alloc,
         "index",
         "N",
@@ -297,10 +297,10 @@ pub(crate) fn index<'a>(alloc: Global) -> Arg<'a>
     .value_parser(value_parser!(i32).range(-1..))
 }
 
-pub(crate) fn seeds<'a>(alloc: Global) -> Arg<'a>
+pub(crate) fn seeds_option<'a>(alloc: Global) -> Arg<'a>
     ensures { rule_of result ≡ seeds_rule }
 {
-    option(
+    option_with_value(
         alloc,
         "seeds",
         "seeds",
@@ -309,7 +309,7 @@ pub(crate) fn seeds<'a>(alloc: Global) -> Arg<'a>
     )
 }
 
-pub(crate) fn failed<'a>(alloc: Global) -> Arg<'a>
+pub(crate) fn failed_flag<'a>(alloc: Global) -> Arg<'a>
     ensures { rule_of result ≡ failed_rule }
 {
     Arg::new(alloc, "failed")
@@ -318,7 +318,7 @@ pub(crate) fn failed<'a>(alloc: Global) -> Arg<'a>
         .action(ArgAction::SetTrue)
 }
 
-pub(crate) fn plan<'a>(alloc: Global) -> Arg<'a>
+pub(crate) fn plan_flag<'a>(alloc: Global) -> Arg<'a>
     ensures { rule_of result ≡ plan_rule }
 {
     Arg::new(alloc, "plan")
@@ -327,10 +327,10 @@ pub(crate) fn plan<'a>(alloc: Global) -> Arg<'a>
         .action(ArgAction::SetTrue)
 }
 
-pub(crate) fn shown_from<'a>(alloc: Global) -> Arg<'a>
+pub(crate) fn shown_from_option<'a>(alloc: Global) -> Arg<'a>
     ensures { rule_of result ≡ from_rule }
 {
-    option(
+    option_with_value(
         alloc,
         "from",
         "from",
@@ -339,10 +339,10 @@ pub(crate) fn shown_from<'a>(alloc: Global) -> Arg<'a>
     )
 }
 
-pub(crate) fn shown_to<'a>(alloc: Global) -> Arg<'a>
+pub(crate) fn shown_to_option<'a>(alloc: Global) -> Arg<'a>
     ensures { rule_of result ≡ to_rule }
 {
-    option(
+    option_with_value(
         alloc,
         "to",
         "to",
@@ -351,7 +351,7 @@ pub(crate) fn shown_to<'a>(alloc: Global) -> Arg<'a>
     )
 }
 
-pub(crate) fn shown_failed<'a>(alloc: Global) -> Arg<'a>
+pub(crate) fn shown_failed_flag<'a>(alloc: Global) -> Arg<'a>
     ensures { rule_of result ≡ failed_rule }
 {
     Arg::new(alloc, "failed")
@@ -362,10 +362,10 @@ pub(crate) fn shown_failed<'a>(alloc: Global) -> Arg<'a>
         .action(ArgAction::SetTrue)
 }
 
-pub(crate) fn width<'a>(alloc: Global) -> Arg<'a>
+pub(crate) fn width_option<'a>(alloc: Global) -> Arg<'a>
     ensures { rule_of result ≡ width_rule }
 {
-    option(
+    option_with_value(
         alloc,
         "width",
         "width",
@@ -375,10 +375,10 @@ pub(crate) fn width<'a>(alloc: Global) -> Arg<'a>
     .value_parser(value_parser!(u32).range(20..=10_000))
 }
 
-pub(crate) fn color<'a>(alloc: Global) -> Arg<'a>
+pub(crate) fn color_option<'a>(alloc: Global) -> Arg<'a>
     ensures { rule_of result ≡ color_rule }
 {
-    option(
+    option_with_value(
         alloc,
         "color",
         "color",
@@ -387,10 +387,10 @@ pub(crate) fn color<'a>(alloc: Global) -> Arg<'a>
     )
 }
 
-pub(crate) fn json<'a>(alloc: Global) -> Arg<'a>
+pub(crate) fn json_option<'a>(alloc: Global) -> Arg<'a>
     ensures { rule_of result ≡ json_rule }
 {
-    option(
+    option_with_value(
         alloc,
         "json",
         "json",

@@ -5,10 +5,12 @@ ghost use Rattle.bf_grammar.specs.Grammar.{answered_app, backfill_app, bare_app,
 ghost use Rattle.bf_grammar.specs.Drafts.{IsDraftOf};
 
 use crate::argument::{
-    color, explain, failed, from, graph, index, journal, json, keep, launcher, logs, on, option,
-    optional_positional, out, plan, positional, progress, quiet, required_option, retry_failed,
-    seeds, shown_failed, shown_from, shown_to, some, stop_after, table, task, to, width, workers,
-    zone_file,
+    color_option, explain_flag, failed_flag, from_option, graph_argument, index_option,
+    journal_option, json_option, keep_option, launcher_option, logs_option, on_option,
+    option_with_value, optional_positional, out_option, plan_flag, positional, progress_flag,
+    quiet_flag, required_option, retry_failed_flag, seeds_option, shown_failed_flag,
+    shown_from_option, shown_to_option, some_flag, stop_after_option, table_argument, task_option,
+    to_option, width_option, workers_option, zone_file_option,
 };
 use crate::draft::Draft;
 use crate::viewing;
@@ -53,20 +55,20 @@ const COMPLETIONS_EXAMPLE: &str = "Example, of a file for bash to source:\n\
     \x20 backfill completions bash > backfill.bash";
 
 /// A command that starts programs, with these arguments before those of programs.
-fn with_programs<'a>(alloc: Global, command: Draft<'a>) -> Draft<'a>
+fn with_program_options<'a>(alloc: Global, command: Draft<'a>) -> Draft<'a>
     ensures { (app : App) → IsDraftOf app command.entry → IsDraftOf (programs_app app) result }
 {
     command
-        .arg(launcher(alloc))
-        .arg(logs(alloc))
-        .arg(journal(alloc))
-        .arg(stop_after(alloc))
-        .arg(retry_failed(alloc))
-        .arg(quiet(alloc))
+        .arg(launcher_option(alloc))
+        .arg(logs_option(alloc))
+        .arg(journal_option(alloc))
+        .arg(stop_after_option(alloc))
+        .arg(retry_failed_flag(alloc))
+        .arg(quiet_flag(alloc))
 }
 
 /// A command over a graph.
-pub(crate) fn over_graph<'a>(
+pub(crate) fn new_graph_command<'a>(
     alloc: Global,
     name: &'a str,
     about: &'a str,
@@ -75,115 +77,118 @@ pub(crate) fn over_graph<'a>(
     ensures { IsDraftOf (over_graph_app name.entry.now) result }
 {
     Draft::new(alloc, name, about, examples)
-        .arg(graph(alloc))
-        .arg(zone_file(alloc))
+        .arg(graph_argument(alloc))
+        .arg(zone_file_option(alloc))
 }
 
 /// A command over data intervals, with these arguments before those that say where they start.
-fn dated<'a>(alloc: Global, command: Draft<'a>) -> Draft<'a>
+fn with_range_options<'a>(alloc: Global, command: Draft<'a>) -> Draft<'a>
     ensures { (app : App) → IsDraftOf app command.entry → IsDraftOf (dated_app app) result }
 {
     command
-        .arg(from(alloc))
-        .arg(to(alloc))
-        .arg(on(alloc))
-        .arg(some(alloc))
+        .arg(from_option(alloc))
+        .arg(to_option(alloc))
+        .arg(on_option(alloc))
+        .arg(some_flag(alloc))
 }
 
 /// A command that goes over the data intervals of a range, with these arguments before its range.
-fn ranged<'a>(alloc: Global, command: Draft<'a>) -> Draft<'a>
+fn with_backfill_options<'a>(alloc: Global, command: Draft<'a>) -> Draft<'a>
     ensures { (app : App) → IsDraftOf app command.entry → IsDraftOf (ranged_app app) result }
 {
-    dated(alloc, command)
-        .arg(workers(alloc))
-        .arg(progress(alloc))
-        .arg(out(alloc))
+    with_range_options(alloc, command)
+        .arg(workers_option(alloc))
+        .arg(progress_flag(alloc))
+        .arg(out_option(alloc))
 }
 
 /// A command that clears, with these arguments before those that say what.
-fn cleared<'a>(alloc: Global, command: Draft<'a>) -> Draft<'a>
+fn with_cleared_options<'a>(alloc: Global, command: Draft<'a>) -> Draft<'a>
     ensures { (app : App) → IsDraftOf app command.entry → IsDraftOf (cleared_app app) result }
 {
     command
-        .arg(task(alloc))
-        .arg(crate::argument::run(alloc))
-        .arg(index(alloc))
-        .arg(seeds(alloc))
-        .arg(failed(alloc))
-        .arg(plan(alloc))
+        .arg(task_option(alloc))
+        .arg(crate::argument::run_option(alloc))
+        .arg(index_option(alloc))
+        .arg(seeds_option(alloc))
+        .arg(failed_flag(alloc))
+        .arg(plan_flag(alloc))
 }
 
-fn check<'a>(alloc: Global) -> Draft<'a>
+fn check_command<'a>(alloc: Global) -> Draft<'a>
     ensures { IsDraftOf check_app result }
 {
-    over_graph(
+    new_graph_command(
         alloc,
         "check",
         "Checks the graph, and tells how many tasks and edges it has",
         CHECK_EXAMPLE,
     )
-    .arg(explain(alloc))
+    .arg(explain_flag(alloc))
 }
 
-pub(crate) fn list<'a>(alloc: Global) -> Draft<'a>
+pub(crate) fn list_command<'a>(alloc: Global) -> Draft<'a>
     ensures { IsDraftOf list_app result }
 {
-    let command = over_graph(
+    let command = new_graph_command(
         alloc,
         "list",
         "Lists the data intervals of the graph's schedule that start in a range",
         LIST_EXAMPLES,
     );
-    dated(alloc, command)
+    with_range_options(alloc, command)
 }
 
-pub(crate) fn single<'a>(alloc: Global) -> Draft<'a>
+pub(crate) fn single_command<'a>(alloc: Global) -> Draft<'a>
     ensures { IsDraftOf single_app result }
 {
-    over_graph(
+    new_graph_command(
         alloc,
         "single",
         "Runs the graph once, answering each task from a table",
         SINGLE_EXAMPLE,
     )
-    .arg(table(alloc))
+    .arg(table_argument(alloc))
     .arg(required_option(
         alloc,
         "at",
         "T",
         "The run's moment in UTC, as 2024-01-31 or 2024-01-31T06:00:00Z",
     ))
-    .arg(out(alloc))
+    .arg(out_option(alloc))
 }
 
-pub(crate) fn dry<'a>(alloc: Global) -> Draft<'a>
+pub(crate) fn dry_command<'a>(alloc: Global) -> Draft<'a>
     ensures { IsDraftOf dry_app result }
 {
-    let command = over_graph(
+    let command = new_graph_command(
         alloc,
         "dry",
         "Runs the graph for each data interval that starts in a range, answering each task from a table",
         DRY_EXAMPLE,
     );
-    ranged(alloc, command.arg(table(alloc))).arg(keep(alloc))
+    with_backfill_options(alloc, command.arg(table_argument(alloc))).arg(keep_option(alloc))
 }
 
-pub(crate) fn run<'a>(alloc: Global) -> Draft<'a>
+pub(crate) fn run_command<'a>(alloc: Global) -> Draft<'a>
     ensures { IsDraftOf run_app result }
 {
-    let command = over_graph(
+    let command = new_graph_command(
         alloc,
         "run",
         "Runs the graph for each data interval that starts in a range, with the programs of its tasks",
         RUN_EXAMPLES,
     );
-    with_programs(alloc, ranged(alloc, command).arg(keep(alloc)))
+    with_program_options(
+        alloc,
+        with_backfill_options(alloc, command).arg(keep_option(alloc)),
+    )
 }
 
-pub(crate) fn clear<'a>(alloc: Global) -> Draft<'a>
+pub(crate) fn clear_command<'a>(alloc: Global) -> Draft<'a>
     ensures { IsDraftOf clear_app result }
 {
-    let command = over_graph(
+    let command = new_graph_command(
         alloc,
         "clear",
         "Runs tasks of runs again, with all that follows from them, and keeps the rest of a report",
@@ -195,18 +200,18 @@ pub(crate) fn clear<'a>(alloc: Global) -> Draft<'a>
         "REPORT",
         "The report of the backfill to go on from",
     ));
-    let command = cleared(alloc, command).arg(option(
+    let command = with_cleared_options(alloc, command).arg(option_with_value(
         alloc,
         "table",
         "table",
         "PATH",
         "The answers of the tasks' tries, a JSON file, in place of their programs",
     ));
-    with_programs(alloc, ranged(alloc, command))
+    with_program_options(alloc, with_backfill_options(alloc, command))
 }
 
 /// `show` with its files and its range.
-fn showing<'a>(alloc: Global) -> Draft<'a>
+fn ranged_show_command<'a>(alloc: Global) -> Draft<'a>
     ensures { IsDraftOf showing_app result }
 {
     Draft::new(
@@ -217,22 +222,22 @@ fn showing<'a>(alloc: Global) -> Draft<'a>
     )
     .arg(optional_positional(alloc, "graph", "GRAPH", "The task graph, a JSON file"))
     .arg(optional_positional(alloc, "report", "REPORT", "The report to show"))
-    .arg(zone_file(alloc))
-    .arg(shown_from(alloc))
-    .arg(shown_to(alloc))
+    .arg(zone_file_option(alloc))
+    .arg(shown_from_option(alloc))
+    .arg(shown_to_option(alloc))
 }
 
-pub(crate) fn show<'a>(alloc: Global) -> Draft<'a>
+pub(crate) fn show_command<'a>(alloc: Global) -> Draft<'a>
     ensures { IsDraftOf show_app result }
 {
-    showing(alloc)
-        .arg(shown_failed(alloc))
-        .arg(width(alloc))
-        .arg(color(alloc))
-        .arg(json(alloc))
+    ranged_show_command(alloc)
+        .arg(shown_failed_flag(alloc))
+        .arg(width_option(alloc))
+        .arg(color_option(alloc))
+        .arg(json_option(alloc))
 }
 
-pub(crate) fn schema<'a>(alloc: Global) -> Draft<'a>
+pub(crate) fn schema_command<'a>(alloc: Global) -> Draft<'a>
     ensures { IsDraftOf schema_app result }
 {
     Draft::new(
@@ -249,7 +254,7 @@ pub(crate) fn schema<'a>(alloc: Global) -> Draft<'a>
     ))
 }
 
-pub(crate) fn completions<'a>(alloc: Global) -> Draft<'a>
+pub(crate) fn completions_command<'a>(alloc: Global) -> Draft<'a>
     ensures { IsDraftOf completions_app result }
 {
     Draft::new(
@@ -262,7 +267,7 @@ pub(crate) fn completions<'a>(alloc: Global) -> Draft<'a>
 }
 
 /// The line with no command.
-fn bare<'a>(alloc: Global) -> Draft<'a>
+fn line_without_commands<'a>(alloc: Global) -> Draft<'a>
     ensures { IsDraftOf bare_app result }
 {
     let command = Command::new(alloc, "backfill")
@@ -276,42 +281,42 @@ fn bare<'a>(alloc: Global) -> Draft<'a>
 }
 
 /// The line with the commands that start no program.
-fn answered<'a>(alloc: Global) -> Draft<'a>
+fn line_without_programs<'a>(alloc: Global) -> Draft<'a>
     ensures { IsDraftOf answered_app result }
 {
-    bare(alloc)
-        .subcommand(check(alloc))
-        .subcommand(list(alloc))
-        .subcommand(single(alloc))
-        .subcommand(dry(alloc))
+    line_without_commands(alloc)
+        .subcommand(check_command(alloc))
+        .subcommand(list_command(alloc))
+        .subcommand(single_command(alloc))
+        .subcommand(dry_command(alloc))
 }
 
 /// And those that do.
-fn running<'a>(alloc: Global) -> Draft<'a>
+fn line_with_programs<'a>(alloc: Global) -> Draft<'a>
     ensures { IsDraftOf running_app result }
 {
-    answered(alloc)
-        .subcommand(run(alloc))
-        .subcommand(clear(alloc))
+    line_without_programs(alloc)
+        .subcommand(run_command(alloc))
+        .subcommand(clear_command(alloc))
 }
 
 /// And those that show a report.
-fn viewing<'a>(alloc: Global) -> Draft<'a>
+fn line_with_views<'a>(alloc: Global) -> Draft<'a>
     ensures { IsDraftOf viewing_app result }
 {
-    running(alloc)
-        .subcommand(show(alloc))
-        .subcommand(viewing::page(alloc))
-        .subcommand(viewing::explain(alloc))
-        .subcommand(viewing::answers(alloc))
+    line_with_programs(alloc)
+        .subcommand(show_command(alloc))
+        .subcommand(viewing::page_command(alloc))
+        .subcommand(viewing::explain_command(alloc))
+        .subcommand(viewing::answers_command(alloc))
 }
 
 /// The whole command line.
-pub fn backfill<'a>(alloc: Global) -> Result<Command<'a>, AllocError>
+pub fn backfill_command<'a>(alloc: Global) -> Result<Command<'a>, AllocError>
     ensures { IfOk result (λ c. app_of c ≡ backfill_app) }
 {
-    viewing(alloc)
-        .subcommand(schema(alloc))
-        .subcommand(completions(alloc))
+    line_with_views(alloc)
+        .subcommand(schema_command(alloc))
+        .subcommand(completions_command(alloc))
         .command
 }

@@ -9,5 +9,5 @@ mod draft;
 mod refusal;
 mod viewing;
 
-pub use command::backfill;
-pub use refusal::refuse;
+pub use command::backfill_command;
+pub use refusal::refusal_of;

@@ -2,32 +2,40 @@
 ghost use Rattle.std.specs.Prelude.{◌≡◌, IfOk};
 ghost use Rattle.clap.specs.Words.{kind_of};
 
-use crate::command::{clear, completions, dry, list, run, schema, show, single};
+use crate::command::{
+    clear_command, completions_command, dry_command, list_command, run_command, schema_command,
+    show_command, single_command,
+};
 use crate::draft::Draft;
-use crate::viewing::explain;
+use crate::viewing::explain_command;
 use clap::Error;
 use clap::error::ErrorKind;
 use std::alloc::{AllocError, Global};
 
 /// The command of this name that has more to ask than `clap` does, and how its usage begins.
-fn asking<'a>(alloc: Global, name: &str) -> (Draft<'a>, &'static str) {
+fn command_and_usage<'a>(alloc: Global, name: &str) -> (Draft<'a>, &'static str) {
     match name {
-        "list" => (list(alloc), "backfill list"),
-        "single" => (single(alloc), "backfill single"),
-        "dry" => (dry(alloc), "backfill dry"),
-        "run" => (run(alloc), "backfill run"),
-        "show" => (show(alloc), "backfill show"),
-        "explain" => (explain(alloc), "backfill explain"),
-        "schema" => (schema(alloc), "backfill schema"),
-        "completions" => (completions(alloc), "backfill completions"),
-        _ => (clear(alloc), "backfill clear"),
+        "list" => (list_command(alloc), "backfill list"),
+        "single" => (single_command(alloc), "backfill single"),
+        "dry" => (dry_command(alloc), "backfill dry"),
+        "run" => (run_command(alloc), "backfill run"),
+        "show" => (show_command(alloc), "backfill show"),
+        "explain" => (explain_command(alloc), "backfill explain"),
+        "schema" => (schema_command(alloc), "backfill schema"),
+        "completions" => (completions_command(alloc), "backfill completions"),
+        _ => (clear_command(alloc), "backfill clear"),
     }
 }
 
 /// What is said of words that the command of this name doesn't take: `text`, and its usage.
-pub fn refuse(alloc: Global, name: &str, kind: ErrorKind, text: &str) -> Result<Error, AllocError>
+pub fn refusal_of(
+    alloc: Global,
+    name: &str,
+    kind: ErrorKind,
+    text: &str,
+) -> Result<Error, AllocError>
     ensures { IfOk result (λ e. kind_of e ≡ kind) }
 {
-    let (command, begin) = asking(alloc, name);
+    let (command, begin) = command_and_usage(alloc, name);
     command.command?.bin_name(begin)?.error(kind, text)
 }

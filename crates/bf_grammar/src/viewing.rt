@@ -4,8 +4,8 @@ ghost use Rattle.clap.specs.Words.{rule_of};
 ghost use Rattle.bf_grammar.specs.Grammar.{answers_app, explain_app, journal_rule, one_index_rule, one_run_rule, one_task_rule, over_report_app, page_app, states_only_rule};
 ghost use Rattle.bf_grammar.specs.Drafts.{IsDraftOf};
 
-use crate::argument::{option, positional, required_option};
-use crate::command::over_graph;
+use crate::argument::{option_with_value, positional, required_option};
+use crate::command::new_graph_command;
 use crate::draft::Draft;
 use clap::{Arg, ArgAction, value_parser};
 use std::alloc::Global;
@@ -20,7 +20,7 @@ const EXPLAIN_EXAMPLES: &str = "Examples:\n\
 const ANSWERS_EXAMPLE: &str = "Example:\n\
     \x20 backfill answers examples/failed_day/report.txt > table.json";
 
-fn states_only<'a>(alloc: Global) -> Arg<'a>
+fn states_only_flag<'a>(alloc: Global) -> Arg<'a>
     ensures { rule_of result ≡ states_only_rule }
 {
     Arg::new(alloc, "states_only")
@@ -31,10 +31,10 @@ fn states_only<'a>(alloc: Global) -> Arg<'a>
         .action(ArgAction::SetTrue)
 }
 
-fn journal<'a>(alloc: Global) -> Arg<'a>
+fn journal_option<'a>(alloc: Global) -> Arg<'a>
     ensures { rule_of result ≡ journal_rule }
 {
-    option(
+    option_with_value(
         alloc,
         "journal",
         "journal",
@@ -43,7 +43,7 @@ fn journal<'a>(alloc: Global) -> Arg<'a>
     )
 }
 
-fn run<'a>(alloc: Global) -> Arg<'a>
+fn run_option<'a>(alloc: Global) -> Arg<'a>
     ensures { rule_of result ≡ one_run_rule }
 {
     required_option(
@@ -54,10 +54,10 @@ fn run<'a>(alloc: Global) -> Arg<'a>
     )
 }
 
-fn task<'a>(alloc: Global) -> Arg<'a>
+fn task_option<'a>(alloc: Global) -> Arg<'a>
     ensures { rule_of result ≡ one_task_rule }
 {
-    option(
+    option_with_value(
         alloc,
         "task",
         "task",
@@ -66,10 +66,10 @@ fn task<'a>(alloc: Global) -> Arg<'a>
     )
 }
 
-fn index<'a>(alloc: Global) -> Arg<'a>
+fn index_option<'a>(alloc: Global) -> Arg<'a>
     ensures { rule_of result ≡ one_index_rule }
 {
-    option(
+    option_with_value(
         alloc,
         "index",
         "index",
@@ -80,7 +80,7 @@ fn index<'a>(alloc: Global) -> Arg<'a>
 }
 
 /// A command over a graph and a report.
-fn over_report<'a>(
+fn new_report_command<'a>(
     alloc: Global,
     name: &'a str,
     about: &'a str,
@@ -89,39 +89,41 @@ fn over_report<'a>(
 ) -> Draft<'a>
     ensures { IsDraftOf (over_report_app name.entry.now) result }
 {
-    over_graph(alloc, name, about, examples).arg(positional(alloc, "report", "REPORT", report))
+    new_graph_command(alloc, name, about, examples).arg(positional(
+        alloc, "report", "REPORT", report,
+    ))
 }
 
-pub(crate) fn page<'a>(alloc: Global) -> Draft<'a>
+pub(crate) fn page_command<'a>(alloc: Global) -> Draft<'a>
     ensures { IsDraftOf page_app result }
 {
-    over_report(
+    new_report_command(
         alloc,
         "page",
         "Writes a page that shows a report: its runs and tasks as a grid, the graph, and why each task has its state",
         "The report to show",
         PAGE_EXAMPLE,
     )
-    .arg(states_only(alloc))
-    .arg(journal(alloc))
+    .arg(states_only_flag(alloc))
+    .arg(journal_option(alloc))
 }
 
-pub(crate) fn explain<'a>(alloc: Global) -> Draft<'a>
+pub(crate) fn explain_command<'a>(alloc: Global) -> Draft<'a>
     ensures { IsDraftOf explain_app result }
 {
-    over_report(
+    new_report_command(
         alloc,
         "explain",
         "Tells why a task of a run, or a run, has its state",
         "The report that has it",
         EXPLAIN_EXAMPLES,
     )
-    .arg(run(alloc))
-    .arg(task(alloc))
-    .arg(index(alloc))
+    .arg(run_option(alloc))
+    .arg(task_option(alloc))
+    .arg(index_option(alloc))
 }
 
-pub(crate) fn answers<'a>(alloc: Global) -> Draft<'a>
+pub(crate) fn answers_command<'a>(alloc: Global) -> Draft<'a>
     ensures { IsDraftOf answers_app result }
 {
     Draft::new(

@@ -7,7 +7,7 @@ ghost use Rattle.bf_graph.specs.Climbs.{AreAllFound, AreRankedBetween, IsFirstUn
 ghost use Rattle.bf_graph.specs.Cycles.{HasCycle};
 
 use crate::ranking::Found;
-use crate::reach::unmarked;
+use crate::reach::row_without_marks;
 use bf_value::OutOfMemory;
 use std::alloc::Global;
 
@@ -23,7 +23,7 @@ struct Climb {
 }
 
 /// The place of the first upstream without rank.
-fn unranked_from(ranks: &[Option<u32>], upstreams: &[u32], from: usize) -> Option<usize>
+fn first_unranked_from(ranks: &[Option<u32>], upstreams: &[u32], from: usize) -> Option<usize>
     requires { (u : ℕ) → Contains upstreams.now u → u < length ranks.now }
     ensures { MatchOption result
         (AreRankedBetween ranks.now upstreams.now from (length upstreams.now))
@@ -45,13 +45,18 @@ impl Climb {
         Ok(Climb {
             found: Found::new(alloc, n)?,
             path: Vec::new(alloc),
-            seen: unmarked(alloc, n)?,
+            seen: row_without_marks(alloc, n)?,
             passed: vec![in alloc; 0; n]?,
         })
     }
 
     /// Ranks a task, and before it those of its upstreams that have no rank; false where that comes upon a cycle.
-    fn climb(&mut self, alloc: Global, edges: &[Vec<u32>], start: u32) -> Result<bool, OutOfMemory>
+    fn rank_with_ancestors(
+        &mut self,
+        alloc: Global,
+        edges: &[Vec<u32>],
+        start: u32,
+    ) -> Result<bool, OutOfMemory>
         requires in_range { AreInRange (lists edges.now) }
         requires few { length edges.now + 1 < 2 ^ 32 }
         requires down { IsDown edges.now self.old }
@@ -65,9 +70,9 @@ impl Climb {
         'climb: while let Some(task) = self.path.pop() {
             let upstreams = edges[task as usize].as_slice();
             let passed = self.passed[task as usize];
-            let found = unranked_from(self.found.ranks.as_slice(), upstreams, passed);
+            let found = first_unranked_from(self.found.ranks.as_slice(), upstreams, passed);
             let Some(place) = found else {
-                self.found.rank(alloc, edges, task)?;
+                self.found.set_rank_of(alloc, edges, task)?;
                 continue;
             };
             let above = upstreams[place];
@@ -84,7 +89,10 @@ impl Climb {
 }
 
 /// The rank of each task and which tasks reach it, if there is no cycle.
-pub(crate) fn found_in(alloc: Global, edges: &[Vec<u32>]) -> Result<Option<Found>, OutOfMemory>
+pub(crate) fn find_ranks_and_reach(
+    alloc: Global,
+    edges: &[Vec<u32>],
+) -> Result<Option<Found>, OutOfMemory>
     requires in_range { AreInRange (lists edges.now) }
     requires few { length edges.now + 1 < 2 ^ 32 }
     ensures { IfOk result (λ found. MatchOption found (HasCycle (lists edges.now))
@@ -93,7 +101,7 @@ pub(crate) fn found_in(alloc: Global, edges: &[Vec<u32>]) -> Result<Option<Found
     let mut climb = Climb::new(alloc, edges.len())?;
     for t in 0..edges.len() {
         let rank = climb.found.ranks[t];
-        if rank.is_none() && !climb.climb(alloc, edges, t as u32)? {
+        if rank.is_none() && !climb.rank_with_ancestors(alloc, edges, t as u32)? {
             return Ok(None);
         }
     }

@@ -11,8 +11,8 @@ ghost use Rattle.bf_graph.specs.Reach.{Reaches};
 ghost use Rattle.bf_graph.specs.Lookups.{IsRisingListOf, IsLeaf};
 ghost use Rattle.bf_graph.specs.Order.{IsByRank, StandBehind, pair_cmp, ranked_tasks};
 
-use crate::climb::found_in;
-use crate::cycles::named_cycle;
+use crate::climb::find_ranks_and_reach;
+use crate::cycles::shortest_cycle_from_earliest;
 use crate::ids::Ids;
 use crate::lookups::{column, downstreams_of, leaves_of, marked_places};
 use crate::ranking::Found;
@@ -134,8 +134,8 @@ impl Graph {
         ensures order { IfOk result (λ tasks. IsByRank self.now.upstreams tasks.items) }
         ensures behind { IfOk result (λ tasks. StandBehind self.now.upstreams tasks.items) }
     {
-        let ranked = ranked(alloc, self.ranks.as_slice())?;
-        let sorted = sorted(ranked);
+        let ranked = rank_and_task_pairs(alloc, self.ranks.as_slice())?;
+        let sorted = sorted_by_rank(ranked);
         tasks_of(alloc, sorted.as_slice())
     }
 
@@ -146,28 +146,28 @@ impl Graph {
     {}
 
     /// A law: each upstream is the number of a task.
-    pub fn in_range(&self)
+    pub fn upstreams_are_in_range(&self)
         ensures { AreInRange self.now.upstreams }
     {
         let _edges = &self.edges;
     }
 
     /// A law: every task has a rank, no higher than there are tasks, and ranks rise along edges.
-    pub fn ranks(&self)
+    pub fn tasks_have_ranks(&self)
         ensures { Ranking self.now.upstreams }
     {
         let _ranks = &self.ranks;
     }
 
     /// A law: there is no cycle.
-    pub fn acyclic(&self)
+    pub fn edges_are_acyclic(&self)
         ensures { IsAcyclic self.now.upstreams }
     {
         let _edges = &self.edges;
     }
 
     /// A law: no two tasks have one id.
-    pub fn distinct(&self)
+    pub fn ids_are_distinct(&self)
         ensures { AreDistinct self.now.ids }
     {
         let _ids = &self.ids;
@@ -196,7 +196,7 @@ impl From<OutOfMemory> for GraphFault {
 }
 
 /// The ranks of tasks that all have one.
-fn unwrapped(alloc: Global, ranks: &[Option<u32>]) -> Result<Vec<u32>, OutOfMemory>
+fn unwrapped_ranks(alloc: Global, ranks: &[Option<u32>]) -> Result<Vec<u32>, OutOfMemory>
     ensures { IfOk result (λ v. v.items ≡ map (λ r. unwrap_or r 0) ranks.now) }
 {
     Ok(ranks.iter().map(|r| r.unwrap_or(0)).collect(alloc)?)
@@ -223,15 +223,15 @@ impl Graph {
         ensures acyclic { OnOk result (IsAcyclic (lists upstreams.items)) }
         ensures cycle { IfErr result (λ e. IsRightFault (lists upstreams.items) e) }
     {
-        let Some(found) = found_in(alloc, upstreams.as_slice())? else {
-            let cycle = named_cycle(alloc, upstreams.as_slice())?;
+        let Some(found) = find_ranks_and_reach(alloc, upstreams.as_slice())? else {
+            let cycle = shortest_cycle_from_earliest(alloc, upstreams.as_slice())?;
             return Err(GraphFault::Cycle(Sequence::from_vec(cycle)));
         };
-        Ok(Graph::of_found(alloc, ids, upstreams, found)?)
+        Ok(Graph::from_ranks_and_reach(alloc, ids, upstreams, found)?)
     }
 
     /// The graph of tasks whose ranks were found.
-    fn of_found(
+    fn from_ranks_and_reach(
         alloc: Global,
         ids: Vec<String>,
         edges: Vec<Vec<u32>>,
@@ -248,8 +248,8 @@ impl Graph {
         }) }
         ensures acyclic { OnOk result (IsAcyclic (lists edges.items)) }
     {
-        let ranks = unwrapped(alloc, found.ranks.as_slice())?;
-        let ids = Ids::numbered(alloc, ids)?;
+        let ranks = unwrapped_ranks(alloc, found.ranks.as_slice())?;
+        let ids = Ids::from_distinct(alloc, ids)?;
         let downstreams = downstreams_of(alloc, edges.as_slice())?;
         let leaves = leaves_of(alloc, downstreams.as_slice())?;
         Ok(Graph {
@@ -264,7 +264,7 @@ impl Graph {
 }
 
 /// Each task with its rank before it, in file order.
-fn ranked(alloc: Global, ranks: &[u32]) -> Result<Vec<(u32, u32)>, OutOfMemory>
+fn rank_and_task_pairs(alloc: Global, ranks: &[u32]) -> Result<Vec<(u32, u32)>, OutOfMemory>
     requires { length ranks.now < 2 ^ 32 }
     ensures { IfOk result (λ pairs. pairs.items ≡ ranked_tasks ranks.now) }
 {
@@ -278,7 +278,7 @@ fn ranked(alloc: Global, ranks: &[u32]) -> Result<Vec<(u32, u32)>, OutOfMemory>
 }
 
 /// The same pairs by rank, and those of one rank by task.
-fn sorted(mut pairs: Vec<(u32, u32)>) -> Vec<(u32, u32)>
+fn sorted_by_rank(mut pairs: Vec<(u32, u32)>) -> Vec<(u32, u32)>
     ensures same { IsPermutation pairs.items result.items }
     ensures sorted { IsSorted pair_cmp result.items }
 {

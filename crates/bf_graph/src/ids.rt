@@ -30,7 +30,7 @@ impl Model for Ids {
 
 impl Ids {
     /// Numbers ids in order.
-    pub fn numbered(alloc: Global, ids: Vec<String>) -> Result<Ids, OutOfMemory>
+    pub fn from_distinct(alloc: Global, ids: Vec<String>) -> Result<Ids, OutOfMemory>
         requires distinct { AreDistinct (texts ids.items) }
         requires few { length ids.items + 1 < 2 ^ 32 }
         ensures { IfOk result (λ numbered. numbered ≡ texts ids.items) }

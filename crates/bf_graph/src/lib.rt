@@ -14,4 +14,4 @@ mod reach;
 
 pub use graph::{Graph, GraphFault};
 pub use ids::Ids;
-pub use reach::reaching;
+pub use reach::marks_of_reaching_tasks;

@@ -9,7 +9,7 @@ use bf_value::OutOfMemory;
 use std::alloc::Global;
 
 /// Adds a task to others that don't come after it, unless it is there.
-fn add_last(tasks: &mut Vec<u32>, task: u32) -> Result<(), OutOfMemory>
+fn push_if_absent(tasks: &mut Vec<u32>, task: u32) -> Result<(), OutOfMemory>
     requires rising { IsStrictlyIncreasing tasks.old.items }
     requires last { All (λ t. t ≤ task) tasks.old.items }
     ensures { OnOk result (IsRisingListOf (λ t. Contains tasks.old.items t
@@ -25,7 +25,7 @@ fn add_last(tasks: &mut Vec<u32>, task: u32) -> Result<(), OutOfMemory>
 }
 
 /// Adds a task to the downstreams of its upstreams.
-fn add_downstream(
+fn push_as_downstream(
     edges: &[Vec<u32>],
     found: &mut Vec<Vec<u32>>,
     task: u32,
@@ -37,7 +37,7 @@ fn add_downstream(
         (lists found.new.items)) }
 {
     for u in edges[task as usize].as_slice() {
-        add_last(&mut found[*u as usize], task)?;
+        push_if_absent(&mut found[*u as usize], task)?;
     }
     Ok(())
 }
@@ -53,7 +53,7 @@ pub(crate) fn downstreams_of(
 {
     let mut found = empty_lists(alloc, edges.len())?;
     for t in 0..edges.len() {
-        add_downstream(edges, &mut found, t as u32)?;
+        push_as_downstream(edges, &mut found, t as u32)?;
     }
     Ok(found)
 }
@@ -71,7 +71,7 @@ pub(crate) fn empty_lists<T: Drop>(alloc: Global, n: usize) -> Result<Vec<Vec<T>
 }
 
 /// Which of these lists are empty.
-fn empty_ones(alloc: Global, lists: &[Vec<u32>]) -> Result<Vec<bool>, OutOfMemory>
+fn marks_of_empty_lists(alloc: Global, lists: &[Vec<u32>]) -> Result<Vec<bool>, OutOfMemory>
     ensures { IfOk result (λ marks. marks.items ≡ map (λ v. length v.items == 0) lists.now) }
 {
     Ok(lists.iter().map(|list| list.is_empty()).collect(alloc)?)
@@ -99,7 +99,7 @@ pub(crate) fn leaves_of(alloc: Global, downstreams: &[Vec<u32>]) -> Result<Vec<u
         → AreDownstreams ups (lists downstreams.now)
         → IsRisingListOf (IsLeaf ups) leaves.items) }
 {
-    let are_leaves = empty_ones(alloc, downstreams)?;
+    let are_leaves = marks_of_empty_lists(alloc, downstreams)?;
     marked_places(alloc, are_leaves.as_slice())
 }
 

@@ -8,7 +8,7 @@ use Rattle.bf_plan.specs.declared.plan.Dag.{Dag}
 use Rattle.bf_grid.specs.declared.failed_tasks.Failing.{Failing}
 use Rattle.bf_grid.specs.FailedTasks.{failing_line, failing_text, further_line, id_width_of, placed}
 use Rattle.bf_grid.specs.FoundTasks.{first_fewer, pair_of}
-use Rattle.bf_wording.specs.Numbers.{plural_of}
+use Rattle.bf_wording.specs.Numbers.{count_text_of}
 use Rattle.bf_grid.proofs.TextFacts.{three_in_a_row}
 
 as_many : (failing : Failing) → length (pair_of failing).1 ≡ length failing.starts.items
@@ -35,13 +35,13 @@ first_of [] x is = cc
 first_of (y ∷ ys) x is = let same : y ≡ x = cc in ap (λ z. z ∷ ys) same
 
 -- what is told of them, behind a text
-pub failing_told : (dag : Dag) (t : List ℕ) (found : List Failing) (first : Failing) (rest : List Failing) (told widest count : ℕ) → found ≡ first ∷ rest → told ≡ min 20 (length found) → widest ≡ length (plural_of (length first.starts.items) (codes "run")) → count ≡ length found →
+pub failing_told : (dag : Dag) (t : List ℕ) (found : List Failing) (first : Failing) (rest : List Failing) (told widest count : ℕ) → found ≡ first ∷ rest → told ≡ min 20 (length found) → widest ≡ length (count_text_of (length first.starts.items) (codes "run")) → count ≡ length found →
     ((t ++ codes "\ntasks that failed themselves\n") ++ flat_map (failing_line dag (id_width_of dag (map pair_of (take told found))) widest) (map pair_of (take told found))) ++ further_line count ≡ t ++ failing_text dag (map pair_of found)
 failing_told dag t found first rest told widest count is few wide all =
     let head : List ℕ = codes "\ntasks that failed themselves\n" in
     let lines : List (ℕ × List ℤ) → ℕ → List ℕ = λ pairs w. flat_map (failing_line dag (id_width_of dag pairs) w) pairs in
-    let w : ℕ = length (plural_of (length (pair_of first).1) (codes "run")) in
-    let same : widest ≡ w = wide ∙ ap (λ n. length (plural_of n (codes "run"))) (sym (as_many first)) in
+    let w : ℕ = length (count_text_of (length (pair_of first).1) (codes "run")) in
+    let same : widest ≡ w = wide ∙ ap (λ n. length (count_text_of n (codes "run"))) (sym (as_many first)) in
     let pairs : map pair_of (take told found) ≡ take 20 (map pair_of found) = ap (map pair_of) (ap (λ n. take n found) few ∙ take_min 20 found) ∙ sym (take-map pair_of 20 found) in
     let number : count ≡ length (map pair_of found) = all ∙ sym (length-map found pair_of) in
     let of_all : List (ℕ × List ℤ) → List ℕ = λ q. t ++ (head ++ (lines (take 20 q) w ++ further_line (length q))) in

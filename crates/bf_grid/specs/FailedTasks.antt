@@ -6,8 +6,8 @@ use Rattle.bf_plan.specs.Plans.{task_of}
 use Rattle.bf_report.specs.declared.report.RunReport.{RunReport}
 use Rattle.bf_marks.specs.Labels.{left, right}
 use Rattle.bf_marks.specs.Tallies.{tally_in}
-use Rattle.bf_wording.specs.Lists.{listed_of}
-use Rattle.bf_wording.specs.Numbers.{number_text, plural_of}
+use Rattle.bf_wording.specs.Lists.{name_list_of}
+use Rattle.bf_wording.specs.Numbers.{number_text, count_text_of}
 use Rattle.bf_marks.specs.Phrases.{short_moment_of}
 
 -- an instance of the task failed in the run
@@ -41,8 +41,8 @@ id_width_of dag found = fold (λ n pair. max n (length (task_of dag pair.0).id))
 abbrev pub failing_line : Dag → ℕ → ℕ → ℕ × List ℤ → List ℕ
 failing_line dag longest widest (task, starts) =
     codes "  " ++ (left longest (task_of dag task).id
-    ++ (codes "  " ++ (right widest (plural_of (length starts) (codes "run"))
-    ++ (codes "  " ++ (listed_of 3 (map short_moment_of starts) ++ codes "\n")))))
+    ++ (codes "  " ++ (right widest (count_text_of (length starts) (codes "run"))
+    ++ (codes "  " ++ (name_list_of 3 (map short_moment_of starts) ++ codes "\n")))))
 
 abbrev pub further_line : ℕ → List ℕ
 further_line count =
@@ -54,5 +54,5 @@ failing_text dag [] = []
 failing_text dag (first ∷ rest) =
     codes "\ntasks that failed themselves\n"
     ++ (flat_map (failing_line dag (id_width_of dag (take 20 (first
-    ∷ rest))) (length (plural_of (length first.1) (codes "run")))) (take 20 (first ∷ rest))
+    ∷ rest))) (length (count_text_of (length first.1) (codes "run")))) (take 20 (first ∷ rest))
     ++ further_line (length (first ∷ rest)))

@@ -11,7 +11,7 @@ use Rattle.bf_marks.specs.declared.label.Scale.{Scale}
 use Rattle.bf_marks.specs.declared.tally.Tally.{Tally}
 use Rattle.bf_marks.specs.declared.view.View.{View}
 use Rattle.bf_grid.specs.FailedTasks.{failing_of, failing_text}
-use Rattle.bf_marks.specs.Widths.{heads_text, room_in, widths_of}
+use Rattle.bf_marks.specs.Widths.{heads_text, column_count_in, widths_of}
 use Rattle.bf_grid.specs.Selection.{name_width_of, names_of, shown_runs_of, shown_tasks_of}
 use Rattle.bf_marks.specs.Labels.{counted, digits_at, groups_of, groups_text, scale_of, unit_place_of}
 use Rattle.bf_marks.specs.CellMarks.{column_mark}
@@ -72,7 +72,7 @@ table_by view dag runs tasks names widths each =
 abbrev pub table_with : View → Dag → List RunReport → List ℕ → ℕ → Widths → List ℕ
 table_with view dag runs tasks names widths =
     table_by view dag runs tasks names widths
-    (div_ceil (length runs) (room_in view.width names widths))
+    (div_ceil (length runs) (column_count_in view.width names widths))
 
 abbrev pub table_text : View → Dag → List RunReport → List ℕ → List ℕ
 table_text view dag runs tasks =

@@ -4,7 +4,7 @@ use Rattle.std.specs.List.{list_any}
 use Rattle.bf_report.specs.declared.report.RunReport.{RunReport}
 use Rattle.bf_marks.specs.declared.mark.Mark.{Mark}
 use Rattle.bf_marks.specs.declared.mark.Mark.TheVariants.{Success, Retried, Failed, UpstreamFailed, Skipped, NoStatus}
-use Rattle.bf_marks.specs.CellMarks.{color_code, mark_letter, mark_of, painted, weight}
+use Rattle.bf_marks.specs.CellMarks.{color_code, mark_letter, mark_of, painted, severity}
 use Rattle.bf_grid.specs.GridRows.{line}
 use Rattle.bf_marks.specs.Tallies.{tally_in}
 
@@ -22,7 +22,7 @@ all_marks = Success ∷ Retried ∷ Failed ∷ UpstreamFailed ∷ Skipped ∷ No
 -- a task in a run has this mark
 abbrev pub has_mark_in : List RunReport → Mark → ℕ → Bool
 has_mark_in runs mark task =
-    list_any (λ run. weight (mark_of (tally_in task run)) == weight mark) runs
+    list_any (λ run. severity (mark_of (tally_in task run)) == severity mark) runs
 
 abbrev pub is_seen_in : List RunReport → List ℕ → Mark → Bool
 is_seen_in runs tasks mark = list_any (has_mark_in runs mark) tasks

@@ -27,9 +27,9 @@ shown_tasks_of view runs order = filter (is_shown_task_in view runs) order
 abbrev pub names_of : Dag → List ℕ → List (List ℕ)
 names_of dag tasks = map (λ task. (task_of dag task).id) tasks
 
-abbrev pub longest_of : List (List ℕ) → ℕ
-longest_of names = fold (λ n name. max n (length name)) 3 names
+abbrev pub longest_id_length_of : List (List ℕ) → ℕ
+longest_id_length_of names = fold (λ n name. max n (length name)) 3 names
 
 -- a third of the width, and at least 12, is enough
 abbrev pub name_width_of : ℕ → List (List ℕ) → ℕ
-name_width_of width names = min (longest_of names) (max 12 (width / 3))
+name_width_of width names = min (longest_id_length_of names) (max 12 (width / 3))

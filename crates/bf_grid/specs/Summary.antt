@@ -3,7 +3,7 @@ use Rattle.std.specs.Prelude.{ℕ, ◌-◌, ◌==◌, ◌&&◌, nat_lt, if◌the
 use Rattle.bf_report.specs.declared.report.RunReport.{RunReport}
 use Rattle.bf_marks.specs.CellMarks.{painted}
 use Rattle.bf_marks.specs.Tallies.{states_tally}
-use Rattle.bf_wording.specs.Numbers.{number_text, plural_of}
+use Rattle.bf_wording.specs.Numbers.{number_text, count_text_of}
 use Rattle.bf_marks.specs.Phrases.{short_moment_of}
 
 abbrev pub dates_of : Option RunReport → Option RunReport → List ℕ
@@ -19,12 +19,12 @@ dates runs = dates_of (slice_get runs 0) (slice_get runs (length runs - 1))
 abbrev pub head_line : Bool → List ℕ → List RunReport → List ℕ
 head_line colored dag_id runs =
     painted colored (codes "1") dag_id
-    ++ (dates runs ++ (codes "  " ++ (plural_of (length runs) (codes "run")
+    ++ (dates runs ++ (codes "  " ++ (count_text_of (length runs) (codes "run")
     ++ (codes ", " ++ (number_text (states_tally runs).failed ++ codes " failed\n")))))
 
 -- how many are shown of how many
 abbrev pub shown_of : ℕ → ℕ → List ℕ → List ℕ
-shown_of shown all noun = number_text shown ++ (codes " of " ++ plural_of all noun)
+shown_of shown all noun = number_text shown ++ (codes " of " ++ count_text_of all noun)
 
 abbrev pub shown_line : ℕ → ℕ → ℕ → ℕ → List ℕ
 shown_line runs all_runs tasks all_tasks =

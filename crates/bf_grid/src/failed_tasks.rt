@@ -2,11 +2,14 @@
 ghost use Rattle.std.specs.Prelude.{◌≡◌, ◌≤◌, ◌++◌, length, map, codes, IfOk, OnOk};
 ghost use Rattle.std.specs.List.{flat_map};
 ghost use Rattle.bf_grid.specs.FailedTasks.{failed_starts_of, failing_of, failing_line, failing_text, further_line, id_width_of, placed};
-ghost use Rattle.bf_wording.specs.Numbers.{plural_of};
+ghost use Rattle.bf_wording.specs.Numbers.{count_text_of};
 ghost use Rattle.bf_grid.specs.FoundTasks.{first_fewer, pair_of};
 
 use crate::selection::id_of;
-use bf_marks::{push, push_left, push_listed, push_number, push_plural, push_right, tally_at};
+use bf_marks::{
+    push, push_counted_noun, push_left_aligned, push_listed_moments, push_number,
+    push_right_aligned, tally_at,
+};
 use bf_moment::Moment;
 use bf_plan::Dag;
 use bf_report::RunReport;
@@ -50,7 +53,7 @@ fn place_of(found: &[Failing], count: usize) -> usize
 }
 
 /// Puts a task behind those that failed in as many runs or more.
-fn put(found: &mut Vec<Failing>, failing: Failing) -> Result<(), OutOfMemory>
+fn insert_failing(found: &mut Vec<Failing>, failing: Failing) -> Result<(), OutOfMemory>
     ensures { OnOk result (map pair_of found.new.items
         ≡ placed (pair_of failing) (map pair_of found.old.items)) }
 {
@@ -72,7 +75,7 @@ fn failing_among(
     for task in tasks {
         let starts = failed_starts(alloc, runs, *task)?;
         if !starts.is_empty() {
-            put(
+            insert_failing(
                 &mut found,
                 Failing {
                     task: *task,
@@ -96,10 +99,10 @@ fn id_width(dag: &Dag, found: &[Failing]) -> usize
 
 /// The length of `1 run` or `2 runs`, with this number.
 fn runs_width(alloc: Global, count: usize) -> Result<usize, OutOfMemory>
-    ensures { IfOk result (λ width. width ≡ length (plural_of count (codes "run"))) }
+    ensures { IfOk result (λ width. width ≡ length (count_text_of count (codes "run"))) }
 {
     let mut text = Vec::new(alloc);
-    push_plural(alloc, &mut text, count as u64, "run")?;
+    push_counted_noun(alloc, &mut text, count as u64, "run")?;
     Ok(text.len())
 }
 
@@ -116,13 +119,13 @@ impl Failing {
             ++ failing_line dag.now longest widest (pair_of self.now)) }
     {
         let mut count = Vec::new(alloc);
-        push_plural(alloc, &mut count, self.starts.len() as u64, "run")?;
+        push_counted_noun(alloc, &mut count, self.starts.len() as u64, "run")?;
         push(text, b"  ")?;
-        push_left(text, longest, id_of(dag, self.task).as_bytes())?;
+        push_left_aligned(text, longest, id_of(dag, self.task).as_bytes())?;
         push(text, b"  ")?;
-        push_right(text, widest, count.as_slice())?;
+        push_right_aligned(text, widest, count.as_slice())?;
         push(text, b"  ")?;
-        push_listed(alloc, text, self.starts.as_slice())?;
+        push_listed_moments(alloc, text, self.starts.as_slice())?;
         push(text, b"\n")
     }
 }

@@ -8,9 +8,9 @@ use crate::failed_tasks::push_failing;
 use crate::grid_table::Table;
 use crate::row::{Columns, Layout};
 use crate::selection::{name_width, shown_runs, shown_tasks, total_in};
-use crate::summary::{Shown, push_each, push_head, push_left_out};
+use crate::summary::{Shown, push_head, push_left_out, push_runs_a_column};
 use bf_device::{Cause, Write, WriteFault, send};
-use bf_marks::{View, Widths, push, room_of, states_in, tasks_in_order};
+use bf_marks::{View, Widths, column_count_of, push, tally_of_shown_states, tasks_in_order};
 use bf_plan::Dag;
 use bf_report::{Report, RunReport};
 use bf_value::OutOfMemory;
@@ -18,15 +18,15 @@ use std::alloc::Global;
 
 /// The runs and tasks that a grid shows, of a graph.
 #[derive(Clone, Copy)]
-struct Shows<'a> {
+struct ShownParts<'a> {
     dag: &'a Dag,
     runs: &'a [&'a RunReport],
     tasks: &'a [u32],
 }
 
-impl Shows<'_> {
+impl ShownParts<'_> {
     /// Adds the table, with so many runs a column.
-    fn push_by(
+    fn push_table_by(
         self,
         alloc: Global,
         text: &mut Vec<u8>,
@@ -41,7 +41,7 @@ impl Shows<'_> {
             (map (λ run. run.now) self.entry.runs.now) self.entry.tasks.now layout.names
             layout.widths each) }
     {
-        push_each(alloc, text, each)?;
+        push_runs_a_column(alloc, text, each)?;
         push(text, b"\n")?;
         let columns = Columns {
             runs: self.runs,
@@ -68,18 +68,26 @@ impl Shows<'_> {
         let width = view.width as usize;
         let names = name_width(self.dag, self.tasks, width);
         let total = total_in(alloc, self.runs, self.tasks)?;
-        let widths = Widths::of(alloc, total, states_in(self.runs))?;
-        let each = self.runs.len().div_ceil(room_of(width, names, widths));
+        let widths = Widths::of(alloc, total, tally_of_shown_states(self.runs))?;
+        let each = self
+            .runs
+            .len()
+            .div_ceil(column_count_of(width, names, widths));
         let layout = Layout {
             names,
             widths,
             colored: view.colored,
         };
-        self.push_by(alloc, text, view, layout, each)
+        self.push_table_by(alloc, text, view, layout, each)
     }
 
     /// Adds the table, where there are runs.
-    fn push_if(self, alloc: Global, text: &mut Vec<u8>, view: &View) -> Result<(), OutOfMemory>
+    fn push_table_if_runs(
+        self,
+        alloc: Global,
+        text: &mut Vec<u8>,
+        view: &View,
+    ) -> Result<(), OutOfMemory>
         ensures { OnOk result (text.new.items ≡ text.old.items
             ++ table_if view.now self.entry.dag.now
             (map (λ run. run.now) self.entry.runs.now) self.entry.tasks.now) }
@@ -114,16 +122,16 @@ fn push_body(
         all: dag.tasks.len(),
     };
     push_left_out(alloc, text, shown_of_runs, shown_of_tasks)?;
-    let shows = Shows {
+    let shows = ShownParts {
         dag,
         runs: runs.as_slice(),
         tasks: tasks.as_slice(),
     };
-    shows.push_if(alloc, text, view)
+    shows.push_table_if_runs(alloc, text, view)
 }
 
 /// The same, which is nothing without runs.
-fn push_body_if(
+fn push_body_if_runs(
     alloc: Global,
     text: &mut Vec<u8>,
     view: &View,
@@ -152,7 +160,7 @@ fn text_of_grid(
     let runs = report.runs.as_slice();
     let mut text = Vec::new(alloc);
     push_head(alloc, &mut text, view.colored, dag.id.as_str(), runs)?;
-    push_body_if(alloc, &mut text, view, dag, runs)?;
+    push_body_if_runs(alloc, &mut text, view, dag, runs)?;
     Ok(text)
 }
 

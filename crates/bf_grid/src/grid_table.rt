@@ -8,7 +8,9 @@ ghost use Rattle.bf_grid.specs.GridTables.{row_in, text_in};
 use crate::legend::push_legend;
 use crate::row::{Columns, Layout, push_line};
 use crate::selection::id_of;
-use bf_marks::{Scale, push, push_digits, push_groups, push_spaces, states_in, tally_in};
+use bf_marks::{
+    Scale, push, push_digits, push_groups, push_spaces, tally_in, tally_of_shown_states,
+};
 use bf_moment::Moment;
 use bf_plan::Dag;
 use bf_value::OutOfMemory;
@@ -118,7 +120,7 @@ impl Table<'_> {
         let starts = columns.starts(alloc)?;
         layout.push_labels(alloc, text, starts.as_slice())?;
         let states = columns.states(alloc)?;
-        let tally = states_in(columns.runs);
+        let tally = tally_of_shown_states(columns.runs);
         layout.push_row(alloc, text, b"run", states.as_slice(), tally)?;
         self.push_tasks(alloc, text)?;
         push(text, b"\n")?;

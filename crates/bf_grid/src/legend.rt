@@ -37,7 +37,7 @@ fn has_mark(alloc: Global, runs: &[&RunReport], mark: Mark, task: u32) -> Result
         ≡ has_mark_in (map (λ run. run.now) runs.now) mark task) }
 {
     for run in runs {
-        if Mark::of(tally_at(alloc, run, task)?).weight() == mark.weight() {
+        if Mark::of(tally_at(alloc, run, task)?).severity() == mark.severity() {
             return Ok(true);
         }
     }
@@ -80,7 +80,7 @@ fn seen_among(
     Ok(found)
 }
 
-fn push_explained(text: &mut Vec<u8>, colored: bool, mark: Mark) -> Result<(), OutOfMemory>
+fn push_meaning(text: &mut Vec<u8>, colored: bool, mark: Mark) -> Result<(), OutOfMemory>
     ensures { OnOk result (text.new.items ≡ text.old.items ++ explained colored mark) }
 {
     push_painted(text, colored, mark.color(), mark.letter().as_bytes())?;
@@ -88,11 +88,11 @@ fn push_explained(text: &mut Vec<u8>, colored: bool, mark: Mark) -> Result<(), O
     push(text, meaning_of(mark).as_bytes())
 }
 
-fn push_marks(text: &mut Vec<u8>, colored: bool, marks: &[Mark]) -> Result<(), OutOfMemory>
+fn push_meanings(text: &mut Vec<u8>, colored: bool, marks: &[Mark]) -> Result<(), OutOfMemory>
     ensures { OnOk result (text.new.items ≡ text.old.items ++ legend colored marks.now) }
 {
     for (place, mark) in marks.iter().enumerate() {
-        push_explained(text, colored, *mark)?;
+        push_meaning(text, colored, *mark)?;
         if place + 1 < marks.len() {
             push(text, b"  ")?;
         }
@@ -113,6 +113,6 @@ pub(crate) fn push_legend(
 {
     let marks = seen_among(alloc, runs, tasks, &MARKS)?;
     let mut shown = Vec::new(alloc);
-    push_marks(&mut shown, colored, marks.as_slice())?;
+    push_meanings(&mut shown, colored, marks.as_slice())?;
     push_line(text, shown.as_slice())
 }

@@ -3,7 +3,7 @@ ghost use Rattle.std.specs.Prelude.{◌≡◌, ◌≤◌, ◌<◌, ◌+◌, ◌*
 ghost use Rattle.bf_marks.specs.CellMarks.{column_mark};
 ghost use Rattle.bf_grid.specs.GridRows.{by_column, column_of, column_state, line, row, state_mark_of, trimmed_of};
 
-use bf_marks::{Mark, Tally, Widths, mark_in, push, push_cut_name, push_left, push_marks};
+use bf_marks::{Mark, Tally, Widths, mark_in, push, push_cut_name, push_left_aligned, push_marks};
 use bf_report::RunReport;
 use bf_value::OutOfMemory;
 use bf_xcom::RunState;
@@ -38,7 +38,7 @@ fn state_mark(state: RunState) -> Mark
 }
 
 /// The worst state of the runs of a column.
-fn state_in(runs: &[&RunReport]) -> Mark
+fn worst_state_mark(runs: &[&RunReport]) -> Mark
     ensures { result ≡ column_state (map (λ run. run.now) runs.now) }
 {
     let mut worst = Mark::Skipped;
@@ -88,7 +88,7 @@ impl<'a> Columns<'a> {
     {
         let mut marks = Vec::with_capacity(alloc, self.count)?;
         for place in 0..self.count {
-            marks.push(state_in(self.at(place)))?;
+            marks.push(worst_state_mark(self.at(place)))?;
         }
         Ok(marks)
     }
@@ -120,7 +120,7 @@ impl Layout {
         let mut shown = Vec::new(alloc);
         push_cut_name(&mut shown, self.names, name)?;
         let mut line = Vec::new(alloc);
-        push_left(&mut line, self.names, shown.as_slice())?;
+        push_left_aligned(&mut line, self.names, shown.as_slice())?;
         push(&mut line, b"  ")?;
         push_marks(&mut line, self.colored, marks)?;
         push(&mut line, b"  ")?;

@@ -1,7 +1,7 @@
 //! Which runs and tasks a grid shows.
 ghost use Rattle.std.specs.Prelude.{◌≡◌, ◌≤◌, ◌<◌, ◌+◌, ◌^◌, map, IfOk};
 ghost use Rattle.bf_plan.specs.Plans.{task_of};
-ghost use Rattle.bf_grid.specs.Selection.{is_shown_run_in, is_shown_task_in, longest_of, names_of, name_width_of, shown_runs_of, shown_tasks_of};
+ghost use Rattle.bf_grid.specs.Selection.{is_shown_run_in, is_shown_task_in, longest_id_length_of, names_of, name_width_of, shown_runs_of, shown_tasks_of};
 ghost use Rattle.bf_grid.specs.Grid.{total_of};
 
 use bf_marks::{Tally, View, run_tally, tally_in};
@@ -13,7 +13,7 @@ use std::alloc::Global;
 fn is_shown_run(alloc: Global, view: &View, run: &RunReport) -> Result<bool, OutOfMemory>
     ensures { IfOk result (λ shown. shown ≡ is_shown_run_in view.now run.now) }
 {
-    if !view.has(run.interval.start) {
+    if !view.has_start(run.interval.start) {
         return Ok(false);
     }
     if !view.failed {
@@ -100,8 +100,8 @@ pub(crate) fn id_of(dag: &Dag, task: u32) -> &str
 }
 
 /// The length of the longest id, and at least 3.
-fn longest(dag: &Dag, tasks: &[u32]) -> usize
-    ensures longest { result ≡ longest_of (names_of dag.now tasks.now) }
+fn longest_id_length(dag: &Dag, tasks: &[u32]) -> usize
+    ensures longest { result ≡ longest_id_length_of (names_of dag.now tasks.now) }
     ensures some { 3 ≤ result }
 {
     let mut longest = 3;
@@ -117,5 +117,5 @@ pub(crate) fn name_width(dag: &Dag, tasks: &[u32], width: usize) -> usize
     ensures some { 2 ≤ result }
     ensures few { result + 2 < 2 ^ 64 }
 {
-    longest(dag, tasks).min((width / 3).max(12))
+    longest_id_length(dag, tasks).min((width / 3).max(12))
 }

@@ -2,7 +2,9 @@
 ghost use Rattle.std.specs.Prelude.{◌≡◌, ◌++◌, OnOk};
 ghost use Rattle.bf_grid.specs.Summary.{dates, each_line, head_line, left_out_line, many_line, shown_line, shown_of};
 
-use bf_marks::{push, push_moment, push_number, push_painted, push_plural, states_of};
+use bf_marks::{
+    push, push_counted_noun, push_moment, push_number, push_painted, tally_of_run_states,
+};
 use bf_report::RunReport;
 use bf_value::OutOfMemory;
 use std::alloc::Global;
@@ -34,9 +36,9 @@ pub(crate) fn push_head(
     push_painted(text, colored, "1", dag_id.as_bytes())?;
     push_dates(text, runs)?;
     push(text, b"  ")?;
-    push_plural(alloc, text, runs.len() as u64, "run")?;
+    push_counted_noun(alloc, text, runs.len() as u64, "run")?;
     push(text, b", ")?;
-    push_number(alloc, text, states_of(runs).failed)?;
+    push_number(alloc, text, tally_of_run_states(runs).failed)?;
     push(text, b" failed\n")
 }
 
@@ -47,7 +49,7 @@ pub(crate) struct Shown {
     pub(crate) all: usize,
 }
 
-fn push_shown_of(
+fn push_shown_count(
     alloc: Global,
     text: &mut Vec<u8>,
     shown: Shown,
@@ -58,10 +60,10 @@ fn push_shown_of(
 {
     push_number(alloc, text, shown.shown as u64)?;
     push(text, b" of ")?;
-    push_plural(alloc, text, shown.all as u64, noun)
+    push_counted_noun(alloc, text, shown.all as u64, noun)
 }
 
-fn push_shown(
+fn push_shown_line(
     alloc: Global,
     text: &mut Vec<u8>,
     runs: Shown,
@@ -71,9 +73,9 @@ fn push_shown(
         ++ shown_line runs.shown runs.all tasks.shown tasks.all) }
 {
     push(text, b"shown: ")?;
-    push_shown_of(alloc, text, runs, "run")?;
+    push_shown_count(alloc, text, runs, "run")?;
     push(text, b", ")?;
-    push_shown_of(alloc, text, tasks, "task")?;
+    push_shown_count(alloc, text, tasks, "task")?;
     push(text, b"\n")
 }
 
@@ -90,10 +92,14 @@ pub(crate) fn push_left_out(
     if runs.shown == runs.all && tasks.shown == tasks.all {
         return Ok(());
     }
-    push_shown(alloc, text, runs, tasks)
+    push_shown_line(alloc, text, runs, tasks)
 }
 
-fn push_many(alloc: Global, text: &mut Vec<u8>, each: usize) -> Result<(), OutOfMemory>
+fn push_runs_a_column_line(
+    alloc: Global,
+    text: &mut Vec<u8>,
+    each: usize,
+) -> Result<(), OutOfMemory>
     ensures { OnOk result (text.new.items ≡ text.old.items ++ many_line each) }
 {
     let number = format!(in alloc; "{each}")?;
@@ -103,11 +109,15 @@ fn push_many(alloc: Global, text: &mut Vec<u8>, each: usize) -> Result<(), OutOf
 }
 
 /// Adds how many runs a column is, where that is more than one.
-pub(crate) fn push_each(alloc: Global, text: &mut Vec<u8>, each: usize) -> Result<(), OutOfMemory>
+pub(crate) fn push_runs_a_column(
+    alloc: Global,
+    text: &mut Vec<u8>,
+    each: usize,
+) -> Result<(), OutOfMemory>
     ensures { OnOk result (text.new.items ≡ text.old.items ++ each_line each) }
 {
     if each > 1 {
-        return push_many(alloc, text, each);
+        return push_runs_a_column_line(alloc, text, each);
     }
     Ok(())
 }

@@ -6,7 +6,7 @@ use Rattle.bf_disk.specs.Files.{IsHeld}
 use Rattle.bf_disk.specs.Source.{IsWholeUpTo}
 use Rattle.bf_read.specs.declared.fault.ReadFault.{ReadFault}
 use Rattle.bf_read.specs.declared.path.Path.{Path}
-use Rattle.bf_read.specs.Fields.{limit_of}
+use Rattle.bf_read.specs.Fields.{refuse_beyond_limit_of}
 use Rattle.bf_read.specs.Reading.{graph_in}
 use Rattle.bf_input.specs.Inputs.{IsWholeGraph}
 use Rattle.bf_table.specs.declared.table.TableFault.{TableFault}
@@ -20,7 +20,7 @@ module _ {A : Type 0} (longest : ℕ) (says : List ℕ → A) (fault : A) (too_l
   same_by held bytes read = elim (leb_tells (length held) longest) [ inl short ↦ ap says (read.0 short.1) | inr long ↦ too_long bytes (read.1 long.1) ∙ sym (too_long held long.1) ]
 
 long_graph : (bytes : List ℕ) → 8_388_608 < length bytes → graph_in bytes ≡ Err (ReadFault.LimitPassed Path.Bytes)
-unfolding graph_in limit_of
+unfolding graph_in refuse_beyond_limit_of
 long_graph bytes long = rw (lt-leb (length bytes) 8_388_608 long) refl
 
 pub same_graph : (held bytes : List ℕ) → IsWholeUpTo 8_388_608 (Some held) bytes → graph_in bytes ≡ graph_in held

@@ -10,7 +10,7 @@ ghost use Rattle.bf_disk.specs.Source.{IsWholeUpTo};
 
 use bf_command_fault::CommandFault;
 use bf_command_line::GraphAsked;
-use bf_disk::{Source, SourceFault, first_bytes};
+use bf_disk::{Source, SourceFault, read_first_bytes};
 use bf_read::MOST_BYTES;
 use bf_report::Report;
 use bf_report_reader::{ReportFault, read_report};
@@ -31,7 +31,7 @@ fn fault_at(path: String, fault: SourceFault) -> CommandFault
 }
 
 /// The bytes of a file. Of one with more than `longest` so many and more are read that its reader sees it.
-fn file_bytes<S: Source>(
+fn read_bytes_up_to<S: Source>(
     alloc: Global,
     path: String,
     longest: usize,
@@ -44,13 +44,13 @@ fn file_bytes<S: Source>(
     ensures fault { IfErr result (IsReadingFault (S.file files.old) (string_bytes path ∷ [])) }
     ensures stays { (p : List ℕ) → S.file files.new p ≡ S.file files.old p }
 {
-    match first_bytes(alloc, path.as_str(), longest + 1, files) {
+    match read_first_bytes(alloc, path.as_str(), longest + 1, files) {
         Ok(bytes) => Ok(bytes),
         Err(fault) => Err(fault_at(path, fault)),
     }
 }
 
-fn graph_bytes<S: Source>(
+fn read_graph_bytes<S: Source>(
     alloc: Global,
     path: String,
     files: &mut S,
@@ -65,10 +65,10 @@ fn graph_bytes<S: Source>(
     ensures fault { IfErr result (IsReadingFault (S.file files.old) (string_bytes path ∷ [])) }
     ensures stays { (p : List ℕ) → S.file files.new p ≡ S.file files.old p }
 {
-    file_bytes(alloc, path, MOST_BYTES, files)
+    read_bytes_up_to(alloc, path, MOST_BYTES, files)
 }
 
-fn table_bytes<S: Source>(
+fn read_table_bytes<S: Source>(
     alloc: Global,
     path: String,
     files: &mut S,
@@ -80,10 +80,10 @@ fn table_bytes<S: Source>(
     ensures fault { IfErr result (IsReadingFault (S.file files.old) (string_bytes path ∷ [])) }
     ensures stays { (p : List ℕ) → S.file files.new p ≡ S.file files.old p }
 {
-    file_bytes(alloc, path, LONGEST_TABLE, files)
+    read_bytes_up_to(alloc, path, LONGEST_TABLE, files)
 }
 
-fn zone_bytes<S: Source>(
+fn read_zone_bytes<S: Source>(
     alloc: Global,
     path: Option<String>,
     files: &mut S,
@@ -99,7 +99,7 @@ fn zone_bytes<S: Source>(
 {
     match path {
         Some(path) => {
-            let bytes = file_bytes(alloc, path, MOST_FILE_BYTES, files)?;
+            let bytes = read_bytes_up_to(alloc, path, MOST_FILE_BYTES, files)?;
             Ok(Some(bytes))
         }
         None => Ok(None),
@@ -107,7 +107,7 @@ fn zone_bytes<S: Source>(
 }
 
 /// The bytes of a table where one is named.
-pub fn named_table_bytes<S: Source>(
+pub fn read_named_table<S: Source>(
     alloc: Global,
     path: Option<String>,
     files: &mut S,
@@ -123,7 +123,7 @@ pub fn named_table_bytes<S: Source>(
 {
     match path {
         Some(path) => {
-            let bytes = table_bytes(alloc, path, files)?;
+            let bytes = read_table_bytes(alloc, path, files)?;
             Ok(Some(bytes))
         }
         None => Ok(None),
@@ -131,7 +131,7 @@ pub fn named_table_bytes<S: Source>(
 }
 
 /// The bytes of a seeds file. Of one that is longer than it may be so many and more are read that its reader sees it.
-pub fn seeds_bytes<S: Source>(
+pub fn read_seeds_bytes<S: Source>(
     alloc: Global,
     path: String,
     files: &mut S,
@@ -142,11 +142,11 @@ pub fn seeds_bytes<S: Source>(
     ensures fault { IfErr result (IsReadingFault (S.file files.old) (string_bytes path ∷ [])) }
     ensures stays { (p : List ℕ) → S.file files.new p ≡ S.file files.old p }
 {
-    file_bytes(alloc, path, LONGEST_FILE, files)
+    read_bytes_up_to(alloc, path, LONGEST_FILE, files)
 }
 
 /// The bytes of a file, however many they are: memory has no room for more.
-fn whole_bytes<S: Source>(
+fn read_whole_file<S: Source>(
     alloc: Global,
     path: String,
     files: &mut S,
@@ -158,11 +158,11 @@ fn whole_bytes<S: Source>(
     ensures fault { IfErr result (IsReadingFault (S.file files.old) (string_bytes path ∷ [])) }
     ensures stays { (p : List ℕ) → S.file files.new p ≡ S.file files.old p }
 {
-    file_bytes(alloc, path, isize::MAX as usize, files)
+    read_bytes_up_to(alloc, path, isize::MAX as usize, files)
 }
 
 /// The bytes of a journal where one is named.
-pub fn named_journal_bytes<S: Source>(
+pub fn read_named_journal<S: Source>(
     alloc: Global,
     path: Option<String>,
     files: &mut S,
@@ -178,7 +178,7 @@ pub fn named_journal_bytes<S: Source>(
 {
     match path {
         Some(path) => {
-            let bytes = whole_bytes(alloc, path, files)?;
+            let bytes = read_whole_file(alloc, path, files)?;
             Ok(Some(bytes))
         }
         None => Ok(None),
@@ -186,7 +186,7 @@ pub fn named_journal_bytes<S: Source>(
 }
 
 /// The report that a file holds. It is looked at as it is read, and read no further than its first fault.
-pub fn report_in<S: Source>(
+pub fn read_report_file<S: Source>(
     alloc: Global,
     path: String,
     files: &mut S,
@@ -228,7 +228,7 @@ impl GraphFiles {
 }
 
 /// Reads the graph file, and then the zone file where one is named.
-pub fn graph_files<S: Source>(
+pub fn read_graph_files<S: Source>(
     alloc: Global,
     asked: GraphAsked,
     files: &mut S,
@@ -241,8 +241,8 @@ pub fn graph_files<S: Source>(
     ensures fault { IfErr result (IsReadingFault (S.file files.old) (graph_paths asked)) }
     ensures stays { (p : List ℕ) → S.file files.new p ≡ S.file files.old p }
 {
-    let graph = graph_bytes(alloc, asked.graph, files)?;
-    let zone_file = zone_bytes(alloc, asked.zone_file, files)?;
+    let graph = read_graph_bytes(alloc, asked.graph, files)?;
+    let zone_file = read_zone_bytes(alloc, asked.zone_file, files)?;
     Ok(GraphFiles { graph, zone_file })
 }
 
@@ -254,7 +254,7 @@ pub struct FilesWithTable {
 }
 
 /// Reads the graph file, the zone file where one is named, and then the table.
-pub fn files_with_table<S: Source>(
+pub fn read_files_with_table<S: Source>(
     alloc: Global,
     asked: GraphAsked,
     table: String,
@@ -269,7 +269,7 @@ pub fn files_with_table<S: Source>(
     ensures fault { IfErr result (IsReadingFault (S.file files.old)
         (table_paths asked (string_bytes table))) }
 {
-    let graph = graph_files(alloc, asked, files)?;
-    let table = table_bytes(alloc, table, files)?;
+    let graph = read_graph_files(alloc, asked, files)?;
+    let table = read_table_bytes(alloc, table, files)?;
     Ok(FilesWithTable { graph, table })
 }

@@ -8,7 +8,7 @@ mod files;
 mod moments;
 
 pub use files::{
-    FilesWithTable, GraphFiles, files_with_table, graph_files, named_journal_bytes,
-    named_table_bytes, report_in, seeds_bytes,
+    FilesWithTable, GraphFiles, read_files_with_table, read_graph_files, read_named_journal,
+    read_named_table, read_report_file, read_seeds_bytes,
 };
 pub use moments::moment_of;

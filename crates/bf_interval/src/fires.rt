@@ -6,7 +6,7 @@ ghost use Rattle.bf_cron.specs.Minutes.{IsMinute, IsCivilMinute, minutes};
 ghost use Rattle.bf_interval.specs.Search.{seconds, Collects, IsSettled, AreFirst, AreEnough};
 
 use crate::listing::MOST_RUNS;
-use crate::rising::{place_above, put};
+use crate::rising::{insert_in_order, place_above};
 use bf_cron::{CronSpec, DATES, Matches, date_of, minute_of};
 use jiff::civil::DateTime;
 use jiff::tz::TimeZone;
@@ -30,7 +30,7 @@ fn civil_minute(minute: u64) -> DateTime
 }
 
 /// The second since 1970 to which the zone puts a civil minute, if it isn't before 1970.
-fn second_of(zone: &TimeZone<'_>, at: DateTime) -> Option<u64>
+fn second_of_civil_minute(zone: &TimeZone<'_>, at: DateTime) -> Option<u64>
     requires { IsCivilMinute at }
     ensures { MatchOption result (picked_instant (plain_zone zone.now) at <ℤ pos 0)
         (λ k. picked_instant (plain_zone zone.now) at ≡ seconds k) }
@@ -47,7 +47,7 @@ fn second_of(zone: &TimeZone<'_>, at: DateTime) -> Option<u64>
 }
 
 /// Adds the fire of a minute, if it has one and that isn't before `from`.
-fn add_minute(
+fn push_fire_of_minute(
     found: &mut Vec<u64>,
     spec: &CronSpec,
     zone: &TimeZone<'_>,
@@ -69,14 +69,14 @@ fn add_minute(
     if !spec.matches(at) {
         return Ok(());
     }
-    match second_of(zone, at) {
-        Some(second) if second >= from => put(found, second),
+    match second_of_civil_minute(zone, at) {
+        Some(second) if second >= from => insert_in_order(found, second),
         _ => Ok(()),
     }
 }
 
 /// Adds the fires of an hour, by its number after 1969-12-30T00.
-fn add_hour(
+fn push_fires_of_hour(
     found: &mut Vec<u64>,
     spec: &CronSpec,
     zone: &TimeZone<'_>,
@@ -91,13 +91,13 @@ fn add_hour(
         → Collects spec.now (plain_zone zone.now) low (hour * 60 + 60) from found.new.items) }
 {
     for minute in hour * 60..hour * 60 + 60 {
-        add_minute(found, spec, zone, minute, from)?;
+        push_fire_of_minute(found, spec, zone, minute, from)?;
     }
     Ok(())
 }
 
 /// Adds the fires of a date, by its number after 1969-12-30.
-fn add_day(
+fn push_fires_of_day(
     found: &mut Vec<u64>,
     spec: &CronSpec,
     zone: &TimeZone<'_>,
@@ -113,7 +113,7 @@ fn add_day(
 {
     for hour in day * 24..day * 24 + 24 {
         if spec.has_hour((hour % 24) as u8) {
-            add_hour(found, spec, zone, hour, from)?;
+            push_fires_of_hour(found, spec, zone, hour, from)?;
         }
     }
     Ok(())
@@ -121,7 +121,7 @@ fn add_day(
 
 /// How many of the fires of the dates before `day` come before all that later dates can give, where these
 /// are enough: the last of them lies after `to`, or they are two more than `MOST_RUNS`.
-fn settled(found: &[u64], to: u64, day: u64) -> Option<usize>
+fn settled_fire_count(found: &[u64], to: u64, day: u64) -> Option<usize>
     requires rising { IsStrictlyIncreasing found.now }
     requires day { day < 87_295 }
     ensures some { IfSome result (IsSettled found.now to day) }
@@ -151,12 +151,12 @@ pub fn first_fires(
     let mut found = Vec::new(alloc);
     // This begins two dates before that of `from`, and no clock is two days behind UTC.
     for day in from / DAY..DATES {
-        if let Some(count) = settled(&found, to, day) {
+        if let Some(count) = settled_fire_count(&found, to, day) {
             found.truncate(count);
             return Ok(found);
         }
         if spec.has_date(date_of(day)) {
-            add_day(&mut found, spec, zone, day, from)?;
+            push_fires_of_day(&mut found, spec, zone, day, from)?;
         }
     }
     Ok(found)

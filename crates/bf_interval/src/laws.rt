@@ -10,13 +10,13 @@ ghost use Rattle.bf_interval.specs.declared.fault.IntervalFault.{IntervalFault};
 ghost use Rattle.bf_interval.specs.declared.fault.IntervalFault.TheVariants.{OutOfMemory};
 
 /// A range has one listing.
-pub fn one_listing()
+pub fn listing_is_unique()
     ensures { (spec : CronSpec) (zone : TimeZone) (from to : ℤ) (xs ys : List Interval)
         → AreIntervals spec zone from to xs → AreIntervals spec zone from to ys → xs ≡ ys }
 {}
 
 /// A range has one answer, want of memory aside.
-pub fn one_answer()
+pub fn answer_is_unique()
     ensures { (spec : CronSpec) (zone : TimeZone) (from to : ℤ)
         (x y : Result (List Interval) IntervalFault)
         → IsAnswer spec zone from to x → IsAnswer spec zone from to y

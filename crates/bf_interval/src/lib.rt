@@ -22,7 +22,7 @@ mod years;
 
 pub use fault::IntervalFault;
 pub use interval::Interval;
-pub use laws::{intervals_end_by_2208, intervals_meet, one_answer, one_listing};
+pub use laws::{answer_is_unique, intervals_end_by_2208, intervals_meet, listing_is_unique};
 pub use listing::{MOST_RUNS, intervals};
 pub use runs::Runs;
 pub use years::{FIRST_NANOSECOND, LAST_NANOSECOND, is_in_years};

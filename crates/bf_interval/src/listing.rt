@@ -22,7 +22,7 @@ pub const MOST_RUNS: usize = 4_096;
 const SECOND: u64 = 1_000_000_000;
 
 /// The first whole second that isn't before the moment.
-fn second_from(moment: Timestamp) -> u64
+fn second_rounded_up(moment: Timestamp) -> u64
     requires { IsInYears moment.nanosecond }
     ensures rounded { (k : ℕ) → (result ≤ k) ↔ (moment.nanosecond ≤ℤ seconds k) }
     ensures small { result ≤ 7_258_118_399 }
@@ -31,7 +31,7 @@ fn second_from(moment: Timestamp) -> u64
 }
 
 /// The last whole second that isn't after the moment.
-fn second_to(moment: Timestamp) -> u64
+fn second_rounded_down(moment: Timestamp) -> u64
     requires { IsInYears moment.nanosecond }
     ensures { (k : ℕ) → (k ≤ result) ↔ (seconds k ≤ℤ moment.nanosecond) }
 {
@@ -39,7 +39,7 @@ fn second_to(moment: Timestamp) -> u64
 }
 
 /// The moment of a second since 1970.
-fn moment(second: u64) -> Timestamp
+fn moment_of_second(second: u64) -> Timestamp
     requires { second ≤ 253_402_207_200 }
     ensures { result.nanosecond ≡ seconds second }
 {
@@ -50,7 +50,11 @@ fn moment(second: u64) -> Timestamp
 }
 
 /// Each fire with the next one, as long as the first isn't after `to`.
-fn paired(alloc: Global, fires: &[u64], to: u64) -> Result<Vec<Interval>, IntervalFault>
+fn intervals_between_fires(
+    alloc: Global,
+    fires: &[u64],
+    to: u64,
+) -> Result<Vec<Interval>, IntervalFault>
     requires { All (λ k. k ≤ 253_402_207_200) fires.now }
     ensures { IsPaired fires.now to (result_map_both (λ v. v.items) (λ e. e) result) }
 {
@@ -67,8 +71,8 @@ fn paired(alloc: Global, fires: &[u64], to: u64) -> Result<Vec<Interval>, Interv
             return Err(IntervalFault::TooManyRuns);
         }
         found.push(Interval {
-            start: moment(start),
-            end: moment(*end),
+            start: moment_of_second(start),
+            end: moment_of_second(*end),
         })?;
         start = *end;
     }
@@ -97,7 +101,7 @@ pub fn intervals(
     if to < from {
         return Err(IntervalFault::RangeReversed);
     }
-    let (first, last) = (second_from(from), second_to(to));
+    let (first, last) = (second_rounded_up(from), second_rounded_down(to));
     let fires = first_fires(alloc, spec, zone, first, last)?;
-    paired(alloc, &fires, last)
+    intervals_between_fires(alloc, &fires, last)
 }

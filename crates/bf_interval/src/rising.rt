@@ -6,7 +6,7 @@ ghost use Rattle.bf_interval.specs.Search.{Adds};
 use std::alloc::AllocError;
 
 /// Puts a number into its place, if it isn't there.
-pub fn put(numbers: &mut Vec<u64>, number: u64) -> Result<(), AllocError>
+pub fn insert_in_order(numbers: &mut Vec<u64>, number: u64) -> Result<(), AllocError>
     requires { IsStrictlyIncreasing numbers.old.items }
     ensures rising { IsStrictlyIncreasing numbers.new.items }
     ensures ok { OnOk result (Adds number numbers.old.items numbers.new.items) }

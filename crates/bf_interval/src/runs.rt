@@ -57,7 +57,7 @@ impl Runs {
     }
 
     /// The runs of these data intervals.
-    pub fn of(intervals: Vec<Interval>) -> Runs
+    pub fn from_intervals(intervals: Vec<Interval>) -> Runs
         requires { AreOfRuns intervals.items }
         ensures { result ≡ intervals.items }
     {
@@ -65,7 +65,7 @@ impl Runs {
     }
 
     /// One run, whose data interval starts and ends at a moment of the years.
-    pub fn at(alloc: Global, moment: Timestamp) -> Result<Runs, IntervalFault>
+    pub fn single_at(alloc: Global, moment: Timestamp) -> Result<Runs, IntervalFault>
         requires { IsInYears moment.nanosecond → IsWhole moment.nanosecond }
         ensures ok { IfOk result (λ runs.
             IsInYears moment.nanosecond × (runs ≡ intervals_at moment)) }

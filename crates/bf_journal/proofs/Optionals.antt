@@ -4,7 +4,7 @@ use Rattle.std.specs.Prelude.{IfSome}
 use Rattle.std.proofs.lemmas.List.{length-map, get_or-map}
 use Rattle.bf_value.specs.Views.{list_of}
 use Rattle.bf_value.specs.declared.xval.Xval.{Xval}
-use Rattle.bf_journal.specs.Records.{optional_of}
+use Rattle.bf_journal.specs.Records.{optional_value_of}
 use Rattle.bf_journal.specs.Tells.{IsFound}
 use Rattle.bf_journal.proofs.Telling.{items_back, items_in}
 
@@ -19,10 +19,10 @@ some_weaker P Q there None none = tt
 some_weaker P Q there (Some x) is = there x is
 
 -- where one is no list of a value or of none, no values make them
-pub none_listed : (values : List Xval) (k : ℕ) (x : Xval) → k < length values → x ≡ get_or values k x → ((o : Option Xval) → x ≡ optional_of o → ⊥) → (all : List (Option Xval)) → values ≡ map optional_of all → ⊥
+pub none_listed : (values : List Xval) (k : ℕ) (x : Xval) → k < length values → x ≡ get_or values k x → ((o : Option Xval) → x ≡ optional_value_of o → ⊥) → (all : List (Option Xval)) → values ≡ map optional_value_of all → ⊥
 none_listed values k x within is none all are =
-    let inside : k < length all = omega (arith, within, ap length are, length-map all optional_of) in
-    none (get_or all k None) (is ∙ ap (λ l. get_or l k x) are ∙ get_or-map optional_of all k None x inside)
+    let inside : k < length all = omega (arith, within, ap length are, length-map all optional_value_of) in
+    none (get_or all k None) (is ∙ ap (λ l. get_or l k x) are ∙ get_or-map optional_value_of all k None x inside)
 
 -- two lists of values are one where they make one value
 pub same_items : (xs ys : List Xval) → list_of xs ≡ list_of ys → xs ≡ ys

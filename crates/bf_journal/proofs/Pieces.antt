@@ -28,7 +28,7 @@ use Rattle.bf_xcom.specs.declared.values.Outcome.{Outcome}
 use Rattle.bf_xcom.specs.declared.values.Outcome.TheVariants.{Success, Failed, Skipped}
 use Rattle.bf_xcom.specs.Pulls.{pushed_by}
 use Rattle.bf_journal.specs.Bare.{BeginsRecord, IsStamp}
-use Rattle.bf_journal.specs.Records.{optional_of, outcome_word, record_value}
+use Rattle.bf_journal.specs.Records.{optional_value_of, outcome_word, record_value}
 use Rattle.bf_journal.specs.Tells.{TellsLine}
 use Rattle.bf_journal.proofs.Reading.{id_of, run_of}
 
@@ -96,7 +96,7 @@ word_utf8 Skipped = IsUtf8-are_ascii (codes "skipped") refl
 as_record : (run task : List ℕ) (n : JobName) (o : Outcome) (stamp : Xval) → pushed_by o ≡ None
     → bare_value run task n (outcome_word o) stamp ≡ record_value run task n (record { item = None; pulled = [] }) o stamp
 as_record run task n o stamp nothing =
-    ap (λ p. list_of (Text run ∷ Text task ∷ Int n.index ∷ Int (pos n.attempt) ∷ Text (outcome_word o) ∷ optional_of p ∷ list_of [] ∷ list_of [] ∷ stamp ∷ [])) (sym nothing)
+    ap (λ p. list_of (Text run ∷ Text task ∷ Int n.index ∷ Int (pos n.attempt) ∷ Text (outcome_word o) ∷ optional_value_of p ∷ list_of [] ∷ list_of [] ∷ stamp ∷ [])) (sym nothing)
 
 wide : (z : ℤ) → FitsSigned w32 z → FitsSigned w64 z
 wide z fits = fits_signed_from_abs w64 z (omega (arith, ints, fits.sfits))

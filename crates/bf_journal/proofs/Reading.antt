@@ -22,7 +22,7 @@ use Rattle.bf_interval.specs.declared.interval.Interval.{Interval}
 use Rattle.bf_moment.specs.Moment.{moment_text}
 use Rattle.bf_xcom.specs.Pulls.{pushed_by}
 use Rattle.bf_try.specs.declared.ledger.Entry.{Entry}
-use Rattle.bf_journal.specs.Records.{optional_of, outcome_word, record_in, record_value}
+use Rattle.bf_journal.specs.Records.{optional_value_of, outcome_word, record_in, record_value}
 use Rattle.bf_journal.specs.Tells.{StartsAt, Tells, TellsEntry, TellsName}
 use Rattle.bf_journal.proofs.Telling.{items_back, items_in}
 
@@ -82,9 +82,9 @@ fields_are dag intervals fields n e long name entry =
     let stamp = get_or fields 8 Nil in
     let last : drop 8 fields ≡ stamp ∷ [] = drop_more fields 8 Nil (omega (arith, long)) ∙ ap (λ l. stamp ∷ l) (drop_all 9 fields (omega (arith, long))) in
     let word = Text (outcome_word e.outcome) in
-    let pushed = optional_of (pushed_by e.outcome) in
-    let item = optional_of e.given.item in
-    let pulled = list_of (map optional_of e.given.pulled) in
+    let pushed = optional_value_of (pushed_by e.outcome) in
+    let item = optional_value_of e.given.item in
+    let pulled = list_of (map optional_value_of e.given.pulled) in
     ap list_of (at_drop fields 0 (Text name.run) name.run_is
     ∙ ap (λ l. Text name.run ∷ l) (at_drop fields 1 (Text name.task) name.task_is
     ∙ ap (λ l. Text name.task ∷ l) (at_drop fields 2 (Int n.index) name.index_is
@@ -146,7 +146,7 @@ module _ (dag : Dag) (intervals : List Interval) (fields : List Xval) (n : JobNa
   pub entry_of : TellsEntry fields e
   unfolding nine
   entry_of = record {
-    outcome = record { word_is = at 4; pushed_is = at 5 ∙ ap Some (xval_of-plain_of (optional_of (pushed_by e.outcome))) };
-    item_is = at 6 ∙ ap Some (xval_of-plain_of (optional_of e.given.item));
+    outcome = record { word_is = at 4; pushed_is = at 5 ∙ ap Some (xval_of-plain_of (optional_value_of (pushed_by e.outcome))) };
+    item_is = at 6 ∙ ap Some (xval_of-plain_of (optional_value_of e.given.item));
     pulled_is = at 7;
   }

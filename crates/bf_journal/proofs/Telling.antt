@@ -16,7 +16,7 @@ use Rattle.bf_plan.specs.Plans.{task_of}
 use Rattle.bf_interval.specs.declared.interval.Interval.{Interval}
 use Rattle.bf_moment.specs.Moment.{moment_text}
 use Rattle.bf_try.specs.declared.ledger.Entry.{Entry}
-use Rattle.bf_journal.specs.Records.{optional_of, outcome_word, record_value}
+use Rattle.bf_journal.specs.Records.{optional_value_of, outcome_word, record_value}
 use Rattle.bf_journal.specs.Tells.{Tells, TellAll}
 
 -- ---- what records are made by, back
@@ -40,20 +40,20 @@ items_in (Int z) = []
 items_in (Text t) = []
 items_in Nil = []
 
-optional_back : (o : Option Xval) → optional_in (optional_of o) ≡ o
+optional_back : (o : Option Xval) → optional_in (optional_value_of o) ≡ o
 optional_back None = refl
 optional_back (Some v) = ap Some (xval_of-plain_of v)
 
-placed_back : (o : Option Xval) → optional_in (xval_of (plain_of (optional_of o))) ≡ o
-placed_back o = ap optional_in (xval_of-plain_of (optional_of o)) ∙ optional_back o
+placed_back : (o : Option Xval) → optional_in (xval_of (plain_of (optional_value_of o))) ≡ o
+placed_back o = ap optional_in (xval_of-plain_of (optional_value_of o)) ∙ optional_back o
 
 pub items_back : (xs : List Xval) → xvals_of (plains_of xs) ≡ xs
 items_back [] = refl
 items_back (x ∷ xs) = ap (λ l. l ∷ xvals_of (plains_of xs)) (xval_of-plain_of x) ∙ ap (λ l. x ∷ l) (items_back xs)
 
-all_back : (os : List (Option Xval)) → map optional_in (map optional_of os) ≡ os
+all_back : (os : List (Option Xval)) → map optional_in (map optional_value_of os) ≡ os
 all_back [] = refl
-all_back (o ∷ os) = ap (λ l. l ∷ map optional_in (map optional_of os)) (optional_back o) ∙ ap (λ l. o ∷ l) (all_back os)
+all_back (o ∷ os) = ap (λ l. l ∷ map optional_in (map optional_value_of os)) (optional_back o) ∙ ap (λ l. o ∷ l) (all_back os)
 
 -- the place k of a record
 abbrev place : ℕ → Xval → Xval
@@ -98,7 +98,7 @@ module _ (run run2 task task2 : List ℕ) (n n2 : JobName) (given given2 : Given
 
   pub pulled : given.pulled ≡ given2.pulled
   pulled =
-      let back : (g : Given) → map optional_in (items_in (list_of (map optional_of g.pulled))) ≡ g.pulled = λ g. ap (map optional_in) (items_back (map optional_of g.pulled)) ∙ all_back g.pulled in
+      let back : (g : Given) → map optional_in (items_in (list_of (map optional_value_of g.pulled))) ≡ g.pulled = λ g. ap (map optional_in) (items_back (map optional_value_of g.pulled)) ∙ all_back g.pulled in
       sym (back given) ∙ ap (λ v. map optional_in (items_in (place 7 v))) same ∙ back given2
 
 same_outcome : (a b : Outcome) → outcome_word a ≡ outcome_word b → pushed_by a ≡ pushed_by b → a ≡ b

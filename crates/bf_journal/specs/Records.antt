@@ -26,9 +26,9 @@ pub record IsTellable (value : Xval) : Type 0 where
   pub shallow : plain_depth (plain_of value) ≤ 127
 
 -- a list of the value, or of none
-abbrev pub optional_of : Option Xval → Xval
-optional_of None = list_of []
-optional_of (Some value) = list_of (value ∷ [])
+abbrev pub optional_value_of : Option Xval → Xval
+optional_value_of None = list_of []
+optional_value_of (Some value) = list_of (value ∷ [])
 
 -- how a try ended
 abbrev pub outcome_word : Outcome → List ℕ
@@ -52,8 +52,8 @@ stamp_value stamp exit =
 abbrev pub record_value : List ℕ → List ℕ → JobName → Given → Outcome → Xval → Xval
 record_value run task n given outcome stamp =
     list_of (Text run ∷ Text task ∷ Int n.index ∷ Int (pos n.attempt) ∷ Text (outcome_word outcome)
-    ∷ optional_of (pushed_by outcome) ∷ optional_of given.item
-    ∷ list_of (map optional_of given.pulled) ∷ stamp ∷ [])
+    ∷ optional_value_of (pushed_by outcome) ∷ optional_value_of given.item
+    ∷ list_of (map optional_value_of given.pulled) ∷ stamp ∷ [])
 
 -- the record of a try in the run of this data interval
 abbrev pub record_in : Dag → Interval → JobName → Given → Outcome → Xval → Xval

@@ -14,7 +14,7 @@ use Rattle.bf_interval.specs.declared.interval.Interval.{Interval}
 use Rattle.bf_moment.specs.Moment.{moment_text}
 use Rattle.bf_try.specs.declared.ledger.Entry.{Entry}
 use Rattle.bf_journal.specs.Lines.{whole_lines}
-use Rattle.bf_journal.specs.Records.{IsName, optional_of, outcome_word, record_in}
+use Rattle.bf_journal.specs.Records.{IsName, optional_value_of, outcome_word, record_in}
 
 -- what is found is such a thing, and where nothing is found there is none
 abbrev pub IsFound : {X : Type 0} → (X → Type 0) → Option X → Type 0
@@ -88,10 +88,10 @@ pub record TellsName (dag : Dag) (intervals : List Interval) (fields : List Xval
 -- the next two are of this outcome
 pub record TellsOutcome (fields : List Xval) (outcome : Outcome) : Type 0 where
   pub word_is : slice_get fields 4 ≡ Some (Text (outcome_word outcome))
-  pub pushed_is : slice_get fields 5 ≡ Some (optional_of (pushed_by outcome))
+  pub pushed_is : slice_get fields 5 ≡ Some (optional_value_of (pushed_by outcome))
 
 -- and the next two of what was given
 pub record TellsEntry (fields : List Xval) (entry : Entry) : Type 0 where
   pub outcome : TellsOutcome fields entry.outcome
-  pub item_is : slice_get fields 6 ≡ Some (optional_of entry.given.item)
-  pub pulled_is : slice_get fields 7 ≡ Some (list_of (map optional_of entry.given.pulled))
+  pub item_is : slice_get fields 6 ≡ Some (optional_value_of entry.given.item)
+  pub pulled_is : slice_get fields 7 ≡ Some (list_of (map optional_value_of entry.given.pulled))

@@ -64,7 +64,7 @@ fn number_in(json: &[u8]) -> Option<i64>
 }
 
 /// The name of the try whose record begins so, and what stands behind its name.
-fn named_in<'l>(plan: &Plan, runs: &Runs, line: &'l [u8]) -> Option<(JobName, &'l [u8])>
+fn name_at_front<'l>(plan: &Plan, runs: &Runs, line: &'l [u8]) -> Option<(JobName, &'l [u8])>
     ensures { IfSome result (λ p. BeginsRecord plan.now.dag runs.now line.entry.now p.0 p.1.now) }
 {
     let (run, fields) = split_comma(behind(line, b"[")?)?;
@@ -85,7 +85,7 @@ fn named_in<'l>(plan: &Plan, runs: &Runs, line: &'l [u8]) -> Option<(JobName, &'
 }
 
 /// How a try ended that pushed nothing and was given nothing, and what stands behind that.
-fn ended_in(fields: &[u8]) -> Option<(Outcome, &[u8])>
+fn bare_outcome_in(fields: &[u8]) -> Option<(Outcome, &[u8])>
     ensures pushed { IfSome result (λ p. pushed_by p.0 ≡ None) }
     ensures fields { IfSome result
         (λ p. fields.now ≡ quoted (outcome_word p.0) ++ (codes ",[],[],[]," ++ p.1.now)) }
@@ -111,7 +111,7 @@ fn stamp_in(text: &[u8]) -> Option<(i64, i64, i64)>
 }
 
 /// The try whose bare record the line is, as it is written.
-pub(crate) fn bare_in(
+pub(crate) fn bare_try_in(
     alloc: Global,
     plan: &Plan,
     runs: &Runs,
@@ -119,8 +119,8 @@ pub(crate) fn bare_in(
 ) -> Option<(JobName, Entry)>
     ensures { IfSome result (λ t. TellsLine plan.now.dag runs.now line.now t.0 t.1) }
 {
-    let (name, fields) = named_in(plan, runs, line)?;
-    let (outcome, stamp) = ended_in(fields)?;
+    let (name, fields) = name_at_front(plan, runs, line)?;
+    let (outcome, stamp) = bare_outcome_in(fields)?;
     let _numbers = stamp_in(stamp)?;
     let given = Given {
         item: None,

@@ -19,14 +19,14 @@ impl<F: io::Write + OpenFile + Drop> Cuttable for Output<F> {
     fn cut(&mut self, count: usize) -> Result<(), Halt> {
         match self.inner.set_len(count as u64) {
             Ok(()) => Ok(()),
-            Err(error) => Err(Halt::of(&error)),
+            Err(error) => Err(Halt::from_error(&error)),
         }
     }
 }
 
 /// Drops all bytes but the first so many, and says whether it was done. It gives up where that fails, and at the 1,001st
 /// interruption.
-pub(crate) fn is_cut<D: Cuttable>(device: &mut D, count: usize) -> bool
+pub(crate) fn try_cut<D: Cuttable>(device: &mut D, count: usize) -> bool
     ensures cut { result ≡ true → D.written device.new
         ≡ option_map (take count) (D.written device.old) }
     ensures kept { result ≡ false → D.written device.new ≡ D.written device.old }

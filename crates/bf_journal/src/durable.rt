@@ -16,7 +16,7 @@ impl<F: io::Write + OpenFile + Drop> Durable for Output<F> {
     fn sync(&mut self) -> Result<(), Halt> {
         match self.inner.sync_data() {
             Ok(()) => Ok(()),
-            Err(error) => Err(Halt::of(&error)),
+            Err(error) => Err(Halt::from_error(&error)),
         }
     }
 }
@@ -29,7 +29,7 @@ impl Durable for Memory {
 }
 
 /// Syncs, and says whether it was done. It gives up where that fails, and at the 1,001st interruption.
-pub(crate) fn is_synced<D: Durable>(device: &mut D) -> bool
+pub(crate) fn try_sync<D: Durable>(device: &mut D) -> bool
     ensures { D.written device.new ≡ D.written device.old }
 {
     for _ in 0..=MOST_INTERRUPTIONS {

@@ -4,7 +4,7 @@ ghost use Rattle.std.specs.Int.{w32};
 ghost use Rattle.bf_value.specs.declared.xval.Xval.TheVariants.{Int, Text};
 ghost use Rattle.bf_value.specs.Views.{list_of};
 ghost use Rattle.bf_xcom.specs.Pulls.{pushed_by};
-ghost use Rattle.bf_journal.specs.Records.{optional_of, outcome_word};
+ghost use Rattle.bf_journal.specs.Records.{optional_value_of, outcome_word};
 ghost use Rattle.bf_journal.specs.Tells.{IsFound};
 
 use bf_value::{OutOfMemory, Xval};
@@ -47,8 +47,11 @@ pub(crate) fn attempt_in(number: i64) -> Option<u32>
 }
 
 /// The value of a list of one, or none of an empty list.
-pub(crate) fn optional_in(alloc: Global, value: &Xval) -> Result<Option<Option<Xval>>, OutOfMemory>
-    ensures { IfOk result (IsFound (λ x. value.now ≡ optional_of x)) }
+pub(crate) fn optional_value_in(
+    alloc: Global,
+    value: &Xval,
+) -> Result<Option<Option<Xval>>, OutOfMemory>
+    ensures { IfOk result (IsFound (λ x. value.now ≡ optional_value_of x)) }
 {
     let Xval::List(values) = value else {
         return Ok(None);
@@ -61,27 +64,27 @@ pub(crate) fn optional_in(alloc: Global, value: &Xval) -> Result<Option<Option<X
 }
 
 /// The same at a place.
-pub(crate) fn optional_at(
+pub(crate) fn optional_value_at(
     alloc: Global,
     fields: &[Xval],
     at: usize,
 ) -> Result<Option<Option<Xval>>, OutOfMemory>
-    ensures { IfOk result (IsFound (λ x. slice_get fields.now at ≡ Some (optional_of x))) }
+    ensures { IfOk result (IsFound (λ x. slice_get fields.now at ≡ Some (optional_value_of x))) }
 {
     match fields.get(at) {
-        Some(value) => optional_in(alloc, value),
+        Some(value) => optional_value_in(alloc, value),
         None => Ok(None),
     }
 }
 
 /// The values of lists of one or none.
-fn all_optional_in(alloc: Global, values: &[Xval]) -> Result<Option<Vec<Pulled>>, OutOfMemory>
-    ensures { IfOk result (λ o. IsFound (λ all. values.now ≡ map optional_of all)
+fn pulled_values_of(alloc: Global, values: &[Xval]) -> Result<Option<Vec<Pulled>>, OutOfMemory>
+    ensures { IfOk result (λ o. IsFound (λ all. values.now ≡ map optional_value_of all)
         (option_map (λ v. v.items) o)) }
 {
     let mut all = Vec::with_capacity(alloc, values.len())?;
     for value in values {
-        match optional_in(alloc, value)? {
+        match optional_value_in(alloc, value)? {
             Some(one) => all.push(Pulled::new(alloc, one)?)?,
             None => return Ok(None),
         }
@@ -90,28 +93,28 @@ fn all_optional_in(alloc: Global, values: &[Xval]) -> Result<Option<Vec<Pulled>>
 }
 
 /// The values of a list of such lists.
-fn optionals_in(alloc: Global, value: &Xval) -> Result<Option<Vec<Pulled>>, OutOfMemory>
-    ensures { IfOk result (λ o. IsFound (λ all. value.now ≡ list_of (map optional_of all))
+fn pulled_values_in(alloc: Global, value: &Xval) -> Result<Option<Vec<Pulled>>, OutOfMemory>
+    ensures { IfOk result (λ o. IsFound (λ all. value.now ≡ list_of (map optional_value_of all))
         (option_map (λ v. v.items) o)) }
 {
     let Xval::List(values) = value else {
         return Ok(None);
     };
-    all_optional_in(alloc, values.as_slice())
+    pulled_values_of(alloc, values.as_slice())
 }
 
 /// The same at a place.
-pub(crate) fn optionals_at(
+pub(crate) fn pulled_values_at(
     alloc: Global,
     fields: &[Xval],
     at: usize,
 ) -> Result<Option<Vec<Pulled>>, OutOfMemory>
     ensures { IfOk result (λ o. IsFound
-        (λ all. slice_get fields.now at ≡ Some (list_of (map optional_of all)))
+        (λ all. slice_get fields.now at ≡ Some (list_of (map optional_value_of all)))
         (option_map (λ v. v.items) o)) }
 {
     match fields.get(at) {
-        Some(value) => optionals_in(alloc, value),
+        Some(value) => pulled_values_in(alloc, value),
         None => Ok(None),
     }
 }

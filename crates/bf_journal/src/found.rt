@@ -7,7 +7,7 @@ ghost use Rattle.bf_journal.specs.Found.{IsCutHead, IsFault, IsGoneOnWith};
 use crate::fault::JournalFault;
 use crate::last::last_of;
 use crate::part::behind;
-use crate::told::{Told, told_in};
+use crate::told::{Told, tries_told_in};
 use bf_interval::Runs;
 use bf_plan::Plan;
 use bf_try::Ledger;
@@ -61,7 +61,7 @@ pub fn read_journal(
     let Some(records) = behind(bytes, head) else {
         return found_in_head(alloc, head, bytes);
     };
-    let Told { tries, torn } = told_in(alloc, plan, runs, records)?;
+    let Told { tries, torn } = tries_told_in(alloc, plan, runs, records)?;
     let tries = last_of(alloc, plan, tries)?;
     let whole = bytes.len() - torn;
     Ok(Found { tries, whole, torn })

@@ -30,7 +30,7 @@ pub fn id_of(dag: &Dag, task: u32) -> &str
 }
 
 /// A task, and the tasks that it pulls from.
-fn task_words(alloc: Global, dag: &Dag, task: &Task) -> Result<Xval, OutOfMemory>
+fn value_of_task(alloc: Global, dag: &Dag, task: &Task) -> Result<Xval, OutOfMemory>
     ensures { IfOk result (λ v. v ≡ task_value dag.now task.now) }
 {
     let mut ids = Vec::new(alloc);
@@ -41,18 +41,18 @@ fn task_words(alloc: Global, dag: &Dag, task: &Task) -> Result<Xval, OutOfMemory
     Ok(Xval::List(Values::new(ids)))
 }
 
-fn all_task_words(alloc: Global, dag: &Dag) -> Result<Xval, OutOfMemory>
+fn value_of_tasks(alloc: Global, dag: &Dag) -> Result<Xval, OutOfMemory>
     ensures { IfOk result (λ v. v ≡ list_of (map (task_value dag.now) dag.now.tasks)) }
 {
     let mut tasks = Vec::new(alloc);
     for task in dag.tasks.as_slice() {
-        tasks.push(task_words(alloc, dag, task)?)?;
+        tasks.push(value_of_task(alloc, dag, task)?)?;
     }
     Ok(Xval::List(Values::new(tasks)))
 }
 
 /// Where a data interval starts and ends.
-fn interval_words(alloc: Global, interval: &Interval) -> Result<Xval, OutOfMemory>
+fn value_of_interval(alloc: Global, interval: &Interval) -> Result<Xval, OutOfMemory>
     requires { IsShownInterval interval.now }
     ensures { IfOk result (λ v. v ≡ interval_value interval.now) }
 {
@@ -61,12 +61,12 @@ fn interval_words(alloc: Global, interval: &Interval) -> Result<Xval, OutOfMemor
     Ok(Xval::List(Values::new(vec![in alloc; start, end]?)))
 }
 
-fn all_interval_words(alloc: Global, runs: &Runs) -> Result<Xval, OutOfMemory>
+fn value_of_intervals(alloc: Global, runs: &Runs) -> Result<Xval, OutOfMemory>
     ensures { IfOk result (λ v. v ≡ list_of (map interval_value runs.now)) }
 {
     let mut intervals = Vec::new(alloc);
     for interval in runs.intervals() {
-        intervals.push(interval_words(alloc, interval)?)?;
+        intervals.push(value_of_interval(alloc, interval)?)?;
     }
     Ok(Xval::List(Values::new(intervals)))
 }
@@ -79,7 +79,7 @@ pub struct ClearedTask {
     pub index: Option<i32>,
 }
 
-fn words_with(
+fn seed_fields(
     alloc: Global,
     task: Xval,
     run: Xval,
@@ -94,27 +94,27 @@ fn words_with(
 }
 
 /// A task, the start of the run in which it is cleared, and the map index where an instance is.
-fn seed_words(alloc: Global, seed: &ClearedTask) -> Result<Xval, OutOfMemory>
+fn value_of_seed(alloc: Global, seed: &ClearedTask) -> Result<Xval, OutOfMemory>
     ensures { IfOk result (λ v. v ≡ seed_value seed.now) }
 {
     let task = text_value(alloc, seed.task.as_str())?;
     let run = Xval::Text(Text::new(seed.run.to_string(alloc)?));
-    let words = words_with(alloc, task, run, seed.index)?;
+    let words = seed_fields(alloc, task, run, seed.index)?;
     Ok(Xval::List(Values::new(words)))
 }
 
-fn all_seed_words(alloc: Global, seeds: &[ClearedTask]) -> Result<Xval, OutOfMemory>
+fn value_of_seeds(alloc: Global, seeds: &[ClearedTask]) -> Result<Xval, OutOfMemory>
     ensures { IfOk result (λ v. v ≡ list_of (map seed_value seeds.now)) }
 {
     let mut words = Vec::new(alloc);
     for seed in seeds {
-        words.push(seed_words(alloc, seed)?)?;
+        words.push(value_of_seed(alloc, seed)?)?;
     }
     Ok(Xval::List(Values::new(words)))
 }
 
 /// The head as one value.
-fn value_of(
+fn value_of_head(
     alloc: Global,
     dag: &Dag,
     runs: &Runs,
@@ -124,11 +124,11 @@ fn value_of(
 {
     let words = text_value(alloc, WORDS)?;
     let id = text_value(alloc, dag.id.as_str())?;
-    let tasks = all_task_words(alloc, dag)?;
-    let intervals = all_interval_words(alloc, runs)?;
+    let tasks = value_of_tasks(alloc, dag)?;
+    let intervals = value_of_intervals(alloc, runs)?;
     let mut fields = vec![in alloc; words, Xval::Int(VERSION), id, tasks, intervals]?;
     if !seeds.is_empty() {
-        fields.push(all_seed_words(alloc, seeds)?)?;
+        fields.push(value_of_seeds(alloc, seeds)?)?;
     }
     Ok(Xval::List(Values::new(fields)))
 }
@@ -144,7 +144,7 @@ pub fn head_of(
 ) -> Result<String, OutOfMemory>
     ensures { IfOk result (λ head. string_bytes head ≡ head_text plan.now.dag runs.now seeds.now) }
 {
-    let value = value_of(alloc, plan.dag(), runs, seeds)?;
+    let value = value_of_head(alloc, plan.dag(), runs, seeds)?;
     let mut head = text_of(alloc, &value)?;
     head.push_str("\n")?;
     Ok(head)

@@ -12,7 +12,7 @@ use std::alloc::Global;
 
 /// Notes a try, unless one of its name is noted.
 #[tactic(auto, using(crate::proofs::Lasting::noted, crate::proofs::Lasting::not_noted))]
-fn note(ledger: &mut Ledger, name: JobName, entry: Entry) -> Result<(), OutOfMemory>
+fn note_if_unnoted(ledger: &mut Ledger, name: JobName, entry: Entry) -> Result<(), OutOfMemory>
     ensures { OnOk result ((n : JobName) →
         FinMap.get ledger.new n
         ≡ option_or (FinMap.get ledger.old n) (entry_named (name, entry) n)) }
@@ -25,7 +25,7 @@ fn note(ledger: &mut Ledger, name: JobName, entry: Entry) -> Result<(), OutOfMem
 }
 
 /// Notes a try that stands before those that were noted, if it fits.
-fn note_before(
+fn note_earlier_fit(
     ledger: &mut Ledger,
     plan: &Plan,
     name: JobName,
@@ -39,7 +39,7 @@ fn note_before(
     if !fits(plan, name.task, &entry.outcome) {
         return Ok(());
     }
-    note(ledger, name, entry)
+    note_if_unnoted(ledger, name, entry)
 }
 
 /// Of each name the last of these tries that fits the plan.
@@ -54,7 +54,7 @@ pub(crate) fn last_of(
 {
     let mut ledger = Ledger::new(alloc);
     while let Some((name, entry)) = tries.pop() {
-        note_before(&mut ledger, plan, name, entry)?;
+        note_earlier_fit(&mut ledger, plan, name, entry)?;
     }
     Ok(ledger)
 }

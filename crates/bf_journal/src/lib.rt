@@ -49,4 +49,4 @@ pub use retrying::WithoutFailed;
 pub use since::Since;
 pub use stamp::Stamp;
 pub use stop::Stop;
-pub use whole::is_made_whole;
+pub use whole::try_make_whole;

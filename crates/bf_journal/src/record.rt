@@ -3,9 +3,9 @@ ghost use Rattle.std.specs.Prelude.{◌≡◌, ◌<◌, ◌≤◌, length, IfOk,
 ghost use Rattle.bf_value.specs.Plain.{plain_depth};
 ghost use Rattle.bf_value.specs.Views.{plain_of};
 ghost use Rattle.bf_interval.specs.Intervals.{IsShownInterval};
-ghost use Rattle.bf_journal.specs.Records.{exit_code, HasNoRecord, IsLineOf, IsRecord, optional_of, outcome_word, record_at, stamp_value};
+ghost use Rattle.bf_journal.specs.Records.{exit_code, HasNoRecord, IsLineOf, IsRecord, optional_value_of, outcome_word, record_at, stamp_value};
 
-use crate::run::run_of;
+use crate::run::interval_of_run;
 use crate::stamp::Stamp;
 use crate::value::{moment_value, text_value};
 use bf_interval::{Interval, Runs};
@@ -19,8 +19,8 @@ use std::alloc::Global;
 pub(crate) const DEEPEST_RECORD: usize = 127;
 
 /// A list of the value, or of none.
-fn optional(alloc: Global, value: Option<&Xval>) -> Result<Xval, OutOfMemory>
-    ensures { IfOk result (λ v. v ≡ optional_of (option_copied value.entry)) }
+fn optional_value(alloc: Global, value: Option<&Xval>) -> Result<Xval, OutOfMemory>
+    ensures { IfOk result (λ v. v ≡ optional_value_of (option_copied value.entry)) }
 {
     let mut items = Vec::new(alloc);
     match value {
@@ -32,12 +32,12 @@ fn optional(alloc: Global, value: Option<&Xval>) -> Result<Xval, OutOfMemory>
     }
 }
 
-fn all_optional(alloc: Global, values: &[Pulled]) -> Result<Vec<Xval>, OutOfMemory>
-    ensures { IfOk result (λ all. all.items ≡ map optional_of values.now) }
+fn optional_values(alloc: Global, values: &[Pulled]) -> Result<Vec<Xval>, OutOfMemory>
+    ensures { IfOk result (λ all. all.items ≡ map optional_value_of values.now) }
 {
     let mut all = Vec::with_capacity(alloc, values.len())?;
     for value in values {
-        all.push(optional(alloc, value.get())?)?;
+        all.push(optional_value(alloc, value.get())?)?;
     }
     Ok(all)
 }
@@ -78,7 +78,7 @@ fn stamp_of(alloc: Global, stamp: Stamp, exit: Exit) -> Result<Xval, OutOfMemory
 }
 
 /// The record of an answered try that ended so, in a run of this data interval.
-fn value_of(
+fn value_of_record(
     alloc: Global,
     plan: &Plan,
     run: &Interval,
@@ -97,9 +97,9 @@ fn value_of(
     let index = Xval::Int(i64::from(name.index));
     let attempt = Xval::Int(i64::from(name.attempt));
     let word = text_value(alloc, word_of(outcome))?;
-    let pushed = optional(alloc, outcome.pushed())?;
-    let item = optional(alloc, given.item.as_ref())?;
-    let pulled = Xval::List(Values::new(all_optional(alloc, given.pulled.as_slice())?));
+    let pushed = optional_value(alloc, outcome.pushed())?;
+    let item = optional_value(alloc, given.item.as_ref())?;
+    let pulled = Xval::List(Values::new(optional_values(alloc, given.pulled.as_slice())?));
     let stamp = stamp_of(alloc, stamp, done.raw().exit)?;
     let fields = vec![in alloc;
         run, task, index, attempt, word, pushed, item, pulled, stamp,
@@ -112,7 +112,7 @@ fn line_of(alloc: Global, value: &Xval) -> Result<Option<String>, OutOfMemory>
     ensures some { IfOk result (λ o. IfSome o (λ line. IsLineOf value.now (string_bytes line))) }
     ensures none { IfOk result (λ o. IfNone o (¬ (plain_depth (plain_of value.now) ≤ 127))) }
 {
-    value.known();
+    value.value_is_sound();
     if !value.is_nested_within(DEEPEST_RECORD) {
         return Ok(None);
     }
@@ -122,7 +122,7 @@ fn line_of(alloc: Global, value: &Xval) -> Result<Option<String>, OutOfMemory>
 }
 
 /// The line of the record of an answered try that ended so, in a run of this data interval.
-fn line_in(
+fn record_line_of(
     alloc: Global,
     plan: &Plan,
     run: &Interval,
@@ -138,7 +138,7 @@ fn line_in(
         (¬ (plain_depth (plain_of (record_at plan.now.dag run.now done.now outcome.now stamp)) ≤
         127))) }
 {
-    let value = value_of(alloc, plan, run, done, outcome, stamp)?;
+    let value = value_of_record(alloc, plan, run, done, outcome, stamp)?;
     line_of(alloc, &value)
 }
 
@@ -161,8 +161,8 @@ pub fn record_of(
     if name.task as usize >= plan.dag().tasks.len() {
         return Ok(None);
     }
-    match run_of(runs, name.run) {
-        Some(run) => line_in(alloc, plan, run, done, outcome, stamp),
+    match interval_of_run(runs, name.run) {
+        Some(run) => record_line_of(alloc, plan, run, done, outcome, stamp),
         None => Ok(None),
     }
 }

@@ -1,9 +1,9 @@
 //! What writes records behind each other.
 ghost use Rattle.std.specs.Prelude.{◌≡◌, ◌+◌, ◌-◌, ◌^◌, min, true, false};
 ghost use Rattle.bf_device.specs.Device.{sent};
-ghost use Rattle.bf_journal.specs.Recording.{GoesOut, IsWritten, is_write_failed, stop_of};
+ghost use Rattle.bf_journal.specs.Recording.{GoesOut, IsWritten, is_write_failed, stop_reason_of};
 
-use crate::durable::{Durable, is_synced};
+use crate::durable::{Durable, try_sync};
 use crate::journaled::Journaled;
 use crate::stop::Stop;
 use bf_device::send;
@@ -44,11 +44,11 @@ impl<K: Journaled, D: Durable + Drop> Model for Recorder<K, D> {
 }
 
 /// Writes a line, and syncs where that is due. Says whether both were done.
-fn is_recorded<D: Durable>(device: &mut D, line: &[u8], due: bool) -> bool
+fn try_record_line<D: Durable>(device: &mut D, line: &[u8], due: bool) -> bool
     ensures { GoesOut line.now (D.written device.old) (D.written device.new) result }
 {
     match send(device, line) {
-        Ok(()) if due => is_synced(device),
+        Ok(()) if due => try_sync(device),
         Ok(()) => true,
         Err(_) => false,
     }
@@ -95,11 +95,11 @@ impl<K: Journaled, D: Durable + Drop> Recorder<K, D> {
         }
         let due = now.saturating_sub(self.synced).as_secs() >= PAUSE;
         self.synced = if due { now } else { self.synced };
-        self.write_failed = !is_recorded(&mut self.device, line, due);
+        self.write_failed = !try_record_line(&mut self.device, line, due);
     }
 
     /// Notes that memory was wanting for a record.
-    pub fn lose(&mut self)
+    pub fn note_memory_failure(&mut self)
         ensures { self.new ≡ record self.old { memory_failed = true } }
     {
         self.memory_failed = true;
@@ -114,8 +114,8 @@ impl<K: Journaled, D: Durable + Drop> Recorder<K, D> {
     }
 
     /// Why no further try is begun, if none is.
-    pub fn stop(&self) -> Option<Stop>
-        ensures { result ≡ stop_of self.now }
+    pub fn stop_reason(&self) -> Option<Stop>
+        ensures { result ≡ stop_reason_of self.now }
     {
         if self.write_failed {
             return Some(Stop::WriteFailed);
@@ -131,15 +131,15 @@ impl<K: Journaled, D: Durable + Drop> Recorder<K, D> {
 
     /// Syncs, and gives the device back, with why no further try was begun.
     #[tactic(auto, using(crate::proofs::Going::given_up))]
-    pub fn end(mut self) -> (D, Option<Stop>)
+    pub fn close(mut self) -> (D, Option<Stop>)
         ensures written { IsWritten K.may_record K.base (D.written result.0)
             (is_write_failed result.1) }
-        ensures stop { is_write_failed result.1 ≡ false → result.1 ≡ stop_of self }
+        ensures stop { is_write_failed result.1 ≡ false → result.1 ≡ stop_reason_of self }
     {
         if !self.write_failed {
-            self.write_failed = !is_synced(&mut self.device);
+            self.write_failed = !try_sync(&mut self.device);
         }
-        let stop = self.stop();
+        let stop = self.stop_reason();
         let Recorder {
             device,
             write_failed: _,

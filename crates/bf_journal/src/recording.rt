@@ -6,7 +6,7 @@ use crate::durable::Durable;
 use crate::journaled::Journaled;
 use crate::record::record_of;
 use crate::recorder::Recorder;
-use crate::stamp::{Stamp, milliseconds};
+use crate::stamp::{Stamp, milliseconds_since_1970};
 use crate::stop::Stop;
 use bf_failure::{Detail, DetailedRunner};
 use bf_interval::Runs;
@@ -53,7 +53,7 @@ impl<'a, K: Journaled, RT, R: DetailedRunner, D: Durable + Drop> Model
 
 /// How a try ended, and its line.
 #[derive(Drop)]
-struct Recordable {
+struct GradedRecord {
     has_failed: bool,
     line: Option<String>,
 }
@@ -98,7 +98,7 @@ where
     }
 
     /// What is to be recorded of a try.
-    fn recordable(&self, done: &Done, stamp: Stamp) -> Result<Recordable, OutOfMemory>
+    fn graded_record_of(&self, done: &Done, stamp: Stamp) -> Result<GradedRecord, OutOfMemory>
         requires may { R.may_answer self.now.runner done.now.name done.now.given done.now.raw }
         requires task { done.now.name.task < length self.now.dag.tasks }
         ensures { IfOk result (λ r. IfSome r.line (λ line. K.may_record (string_bytes line))) }
@@ -106,7 +106,7 @@ where
         let outcome = grade(self.alloc, self.plan, done.name().task, done.raw())?;
         let line = record_of(self.alloc, self.plan, self.runs, done, &outcome, stamp)?;
         let has_failed = matches!(&outcome, Outcome::Failed);
-        Ok(Recordable { has_failed, line })
+        Ok(GradedRecord { has_failed, line })
     }
 
     /// Records a try. One of a task that isn't there has no record.
@@ -116,7 +116,7 @@ where
         if done.name().task as usize >= self.plan.dag().tasks.len() {
             return Ok(());
         }
-        let recordable = self.recordable(done, stamp)?;
+        let recordable = self.graded_record_of(done, stamp)?;
         let now = self.now();
         let mut recorder = self.recorder.lock(self.rt);
         if let Some(line) = &recordable.line {
@@ -129,19 +129,19 @@ where
     }
 
     /// Notes that memory was wanting for a record.
-    fn lose(&self) {
+    fn note_memory_failure(&self) {
         let mut recorder = self.recorder.lock(self.rt);
-        recorder.lose();
+        recorder.note_memory_failure();
     }
 
     /// Why no further try is begun, if none is.
-    pub fn stop(&self) -> Option<Stop> {
+    pub fn stop_reason(&self) -> Option<Stop> {
         let recorder = self.recorder.lock(self.rt);
-        recorder.stop()
+        recorder.stop_reason()
     }
 
     /// Syncs, and gives the device back, with why no further try was begun.
-    pub fn end(self) -> (D, Option<Stop>)
+    pub fn close(self) -> (D, Option<Stop>)
         ensures { IsWritten K.may_record K.base (D.written result.0) (is_write_failed result.1) }
     {
         let Recording {
@@ -152,7 +152,7 @@ where
             runner: _,
             recorder,
         } = self;
-        recorder.into_inner().end()
+        recorder.into_inner().close()
     }
 }
 
@@ -176,18 +176,18 @@ where
     ghost may_give_up = { λ s n g. Unit {0} };
 
     fn run(&self, ticket: Ticket) -> Result<Done, (Ticket, RunnerFault)> {
-        if self.stop().is_some() {
+        if self.stop_reason().is_some() {
             return Err((ticket, RunnerFault::GaveUp));
         }
-        let start = milliseconds(self.rt);
+        let start = milliseconds_since_1970(self.rt);
         let (done, detail) = self.runner.run_in_detail(ticket)?;
         let stamp = Stamp {
             start,
-            end: milliseconds(self.rt),
+            end: milliseconds_since_1970(self.rt),
             signal: signal_in(&detail),
         };
         if self.record(&done, stamp).is_err() {
-            self.lose();
+            self.note_memory_failure();
         }
         Ok(done)
     }

@@ -8,7 +8,7 @@ use bf_moment::{moment_bytes, moment_in};
 use jiff::Timestamp;
 
 /// The data interval of the run of a number, where there is one.
-pub(crate) fn run_of(runs: &Runs, run: u32) -> Option<&Interval>
+pub(crate) fn interval_of_run(runs: &Runs, run: u32) -> Option<&Interval>
     ensures run { option_copied result ≡ slice_get runs.now run }
     ensures shown { IfSome (option_copied result) IsShownInterval }
 {
@@ -47,7 +47,7 @@ pub(crate) fn run_in(runs: &Runs, text: &str) -> Option<u32>
     let _intervals = runs.intervals();
     let moment = moment_in(text)?;
     let run = run_at(runs, moment)?;
-    if starts_at(run_of(runs, run), text) {
+    if starts_at(interval_of_run(runs, run), text) {
         Some(run)
     } else {
         None

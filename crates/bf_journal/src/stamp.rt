@@ -11,7 +11,7 @@ pub struct Stamp {
 }
 
 /// The milliseconds since 1970, or 0 where the clock can't be read.
-pub(crate) fn milliseconds<C: Clock>(clock: &C) -> i64 {
+pub(crate) fn milliseconds_since_1970<C: Clock>(clock: &C) -> i64 {
     match clock.since_1970() {
         Ok(passed) => i64::try_from(passed.as_millis()).unwrap_or(i64::MAX),
         Err(_) => 0,

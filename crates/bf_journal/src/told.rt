@@ -4,7 +4,7 @@ ghost use Rattle.bf_journal.specs.Found.{AreRead, IsFaultBehind};
 
 use crate::fault::JournalFault;
 use crate::lines::first_line;
-use crate::tried::tried_in;
+use crate::tried::told_try_in;
 use bf_interval::Runs;
 use bf_plan::Plan;
 use bf_try::Entry;
@@ -21,7 +21,7 @@ pub(crate) struct Told {
 /// The tries that the lines behind a head tell, or the number of the first line that tells of none. What stands behind the last
 /// line feed is no line.
 #[tactic(auto, using(crate::proofs::Passing::nothing_read, crate::proofs::Passing::more_read, crate::proofs::Passing::all_read))]
-pub(crate) fn told_in(
+pub(crate) fn tries_told_in(
     alloc: Global,
     plan: &Plan,
     runs: &Runs,
@@ -34,7 +34,7 @@ pub(crate) fn told_in(
     let mut tries = Vec::new(alloc);
     let mut rest = bytes;
     while let Some((line, more)) = first_line(rest) {
-        match tried_in(alloc, plan, runs, line)? {
+        match told_try_in(alloc, plan, runs, line)? {
             Some(tried) => tries.push(tried)?,
             None => return Err(JournalFault::BadRecord(tries.len() as u64 + 2)),
         }

@@ -3,8 +3,10 @@ ghost use Rattle.std.specs.Prelude.{IfOk};
 ghost use Rattle.bf_value.specs.Views.{list_of};
 ghost use Rattle.bf_journal.specs.Tells.{IsFound, Tells, TellsEntry, TellsLine, TellsName, TellsOutcome, TellsText};
 
-use crate::bare::bare_in;
-use crate::field::{attempt_in, index_in, int_at, optional_at, optionals_at, outcome_in, text_at};
+use crate::bare::bare_try_in;
+use crate::field::{
+    attempt_in, index_in, int_at, optional_value_at, outcome_in, pulled_values_at, text_at,
+};
 use crate::record::DEEPEST_RECORD;
 use crate::run::run_in;
 use bf_interval::Runs;
@@ -40,7 +42,7 @@ fn outcome_of(alloc: Global, fields: &[Xval]) -> Result<Option<Outcome>, OutOfMe
     let Some(word) = text_at(fields, 4) else {
         return Ok(None);
     };
-    match optional_at(alloc, fields, 5)? {
+    match optional_value_at(alloc, fields, 5)? {
         Some(pushed) => Ok(outcome_in(word, pushed)),
         None => Ok(None),
     }
@@ -53,10 +55,10 @@ fn entry_in(alloc: Global, fields: &[Xval]) -> Result<Option<Entry>, OutOfMemory
     let Some(outcome) = outcome_of(alloc, fields)? else {
         return Ok(None);
     };
-    let Some(item) = optional_at(alloc, fields, 6)? else {
+    let Some(item) = optional_value_at(alloc, fields, 6)? else {
         return Ok(None);
     };
-    let Some(pulled) = optionals_at(alloc, fields, 7)? else {
+    let Some(pulled) = pulled_values_at(alloc, fields, 7)? else {
         return Ok(None);
     };
     let pulled = Sequence::from_vec(pulled);
@@ -65,7 +67,7 @@ fn entry_in(alloc: Global, fields: &[Xval]) -> Result<Option<Entry>, OutOfMemory
 }
 
 /// The try of which these are the fields of the record.
-fn tried_of(
+fn told_try_of(
     alloc: Global,
     plan: &Plan,
     runs: &Runs,
@@ -88,7 +90,7 @@ fn tried_of(
 }
 
 /// The try that a text tells of.
-fn tried_in_text(
+fn told_try_in_text(
     alloc: Global,
     plan: &Plan,
     runs: &Runs,
@@ -97,13 +99,13 @@ fn tried_in_text(
     ensures { IfOk result (IsFound (λ t. TellsText plan.now.dag runs.now text.now t.0 t.1)) }
 {
     match read_text(alloc, text, DEEPEST_RECORD)? {
-        Some(Xval::List(fields)) => tried_of(alloc, plan, runs, fields.as_slice()),
+        Some(Xval::List(fields)) => told_try_of(alloc, plan, runs, fields.as_slice()),
         _ => Ok(None),
     }
 }
 
 /// The try that a line tells of.
-pub(crate) fn tried_in(
+pub(crate) fn told_try_in(
     alloc: Global,
     plan: &Plan,
     runs: &Runs,
@@ -111,11 +113,11 @@ pub(crate) fn tried_in(
 ) -> Result<Option<(JobName, Entry)>, OutOfMemory>
     ensures { IfOk result (IsFound (λ t. TellsLine plan.now.dag runs.now line.now t.0 t.1)) }
 {
-    if let Some(tried) = bare_in(alloc, plan, runs, line) {
+    if let Some(tried) = bare_try_in(alloc, plan, runs, line) {
         return Ok(Some(tried));
     }
     match std::str::from_utf8(line) {
-        Ok(text) => tried_in_text(alloc, plan, runs, text),
+        Ok(text) => told_try_in_text(alloc, plan, runs, text),
         Err(_) => Ok(None),
     }
 }

@@ -12,7 +12,7 @@ use std::alloc::Global;
 pub(crate) fn text_value(alloc: Global, text: &str) -> Result<Xval, OutOfMemory>
     ensures { IfOk result (λ v. v ≡ Text text.now) }
 {
-    Ok(Xval::Text(Text::copied(alloc, text)?))
+    Ok(Xval::Text(Text::copy_of(alloc, text)?))
 }
 
 /// The text of a moment as a value.

@@ -2,19 +2,19 @@
 ghost use Rattle.std.specs.Prelude.{◌≡◌, ◌+◌, List, ℕ, Some, false, length, true};
 ghost use Rattle.bf_journal.specs.Left.{IsLeftPart, made_whole};
 
-use crate::cuttable::{Cuttable, is_cut};
+use crate::cuttable::{Cuttable, try_cut};
 use crate::found::Found;
 use bf_device::send;
 
 /// Drops what stands cut short at the end of a journal, and writes its head where nothing is whole. Says whether all of it was done.
-pub fn is_made_whole<D: Cuttable>(device: &mut D, head: &[u8], found: &Found) -> bool
+pub fn try_make_whole<D: Cuttable>(device: &mut D, head: &[u8], found: &Found) -> bool
     ensures whole { (held : List ℕ) → found.now.whole + found.now.torn ≡ length held
         → D.written device.old ≡ Some held
         → result ≡ true → D.written device.new ≡ Some (made_whole head.now held found.now.whole) }
     ensures part { (held : List ℕ) → found.now.whole + found.now.torn ≡ length held → result ≡ false
         → IsLeftPart head.now held (D.written device.old) (D.written device.new) }
 {
-    if found.torn > 0 && !is_cut(device, found.whole) {
+    if found.torn > 0 && !try_cut(device, found.whole) {
         return false;
     }
     found.whole > 0 || send(device, head).is_ok()

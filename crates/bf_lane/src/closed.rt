@@ -3,7 +3,7 @@ ghost use Rattle.std.specs.Prelude.{◌≡◌};
 ghost use Rattle.crossbeam_queue.specs.Passes.{view};
 
 use crate::messages::Job;
-use crate::relay::Seat;
+use crate::relay::QueuePass;
 use crate::reply::Reply;
 use crate::service::Service;
 use std::marker::Model;
@@ -11,8 +11,8 @@ use std::marker::Model;
 /// A lane whose worker has ended. Contracts see it as its four lists: what was submitted and taken, sent and gathered.
 #[derive(Drop)]
 pub struct Closed<K: Service> {
-    jobs: Seat<Job>,
-    results: Seat<Reply<K>>,
+    jobs: QueuePass<Job>,
+    results: QueuePass<Reply<K>>,
 }
 
 impl<K: Service> Model for Closed<K> {
@@ -36,7 +36,7 @@ impl<K: Service> Model for Closed<K> {
 
 impl<K: Service> Closed<K> {
     /// The lane of these passes, which each put and took.
-    pub fn of(jobs: Seat<Job>, results: Seat<Reply<K>>) -> Closed<K>
+    pub fn from_passes(jobs: QueuePass<Job>, results: QueuePass<Reply<K>>) -> Closed<K>
         ensures jobs { (result.submitted ≡ (view jobs).put) × (result.taken ≡ (view jobs).taken) }
         ensures results { (result.sent ≡ (view results).put)
             × (result.gathered ≡ (view results).taken) }

@@ -10,10 +10,10 @@ ghost use Rattle.bf_lane.specs.Drained.{IsDrained};
 use crate::closed::Closed;
 use crate::messages::{Answer, Job};
 use crate::queues::{Queues, Seats, Serves};
-use crate::relay::{Apart, Line, Seat, Taken, Together};
+use crate::relay::{Apart, QueuePass, RuledQueue, Taken, Together};
 use crate::reply::Reply;
 use crate::service::Service;
-use crate::worker::{Desk, put, serve};
+use crate::worker::{Desk, serve, wait_and_put};
 use bf_try::{TaskRunner, Ticket};
 use std::alloc::{AllocError, Global};
 use std::marker::{Model, PhantomData};
@@ -28,9 +28,9 @@ pub struct NotStarted;
 #[derive(Drop)]
 pub struct Lane<'s, K: Service> {
     queues: &'s Queues<K>,
-    puts: Seat<Job>,
-    gathers: Seat<Reply<K>>,
-    worker: PromisedHandle<(Seat<Job>, Seat<Reply<K>>), Serves<'s, K>>,
+    puts: QueuePass<Job>,
+    gathers: QueuePass<Reply<K>>,
+    worker: PromisedHandle<(QueuePass<Job>, QueuePass<Reply<K>>), Serves<'s, K>>,
     is_busy: bool,
 }
 
@@ -52,12 +52,12 @@ impl<'s, K: Service> Model for Lane<'s, K> {
 }
 
 /// The queues of a lane, each of capacity 2, and a seat for each of the four kinds of step.
-pub fn fresh<K: Service>(alloc: Global) -> Result<(Queues<K>, Seats<K>), AllocError>
+pub fn new_queues_and_seats<K: Service>(alloc: Global) -> Result<(Queues<K>, Seats<K>), AllocError>
     ensures { IfOk result (λ q. IsFresh q.0 q.1) }
 {
-    let (jobs, mut puts) = Line::<Job>::ruled(alloc, 2)?;
+    let (jobs, mut puts) = RuledQueue::<Job>::ruled(alloc, 2)?;
     let takes = jobs.another::<Apart>(&mut puts);
-    let (results, mut sends) = Line::<Reply<K>>::ruled(alloc, 2)?;
+    let (results, mut sends) = RuledQueue::<Reply<K>>::ruled(alloc, 2)?;
     let gathers = results.another::<Apart>(&mut sends);
     let seats = Seats {
         puts,
@@ -77,7 +77,7 @@ pub fn fresh<K: Service>(alloc: Global) -> Result<(Queues<K>, Seats<K>), AllocEr
 }
 
 /// Takes out all that a queue holds.
-fn drain<W: Wait, T: Drop>(rt: &W, line: &Line<T>, seat: &mut Seat<T>)
+fn drain<W: Wait, T: Drop>(rt: &W, line: &RuledQueue<T>, seat: &mut QueuePass<T>)
     requires seat { IsPassOf line.now seat.old }
     requires whole { ((view seat.old).puts ≡ true) × ((view seat.old).takes ≡ true) }
     ensures { IsDrained (view seat.old) (view seat.new) }
@@ -164,13 +164,13 @@ impl<'s, K: Service + Send + Sync + 's> Lane<'s, K> {
         ensures { self.new ≡ scheduled (self.old.submitted ++ TheVariants.Run ticket ∷ [])
             self.old.gathered }
     {
-        put(rt, &self.queues.jobs, &mut self.puts, Job::Run(ticket));
+        wait_and_put(rt, &self.queues.jobs, &mut self.puts, Job::Run(ticket));
         self.queues.called.unpark();
         self.is_busy = true;
     }
 
     /// The answer of the worker, if one is awaited and there.
-    pub fn gather(&mut self) -> Option<Answer>
+    pub fn try_gather(&mut self) -> Option<Answer>
         ensures some { IfSome result (λ a. self.new
             ≡ scheduled self.old.submitted (self.old.gathered ++ a ∷ [])) }
         ensures allowed { IfSome result (IsAllowedBy K.answers K.gives_up) }
@@ -197,13 +197,13 @@ impl<'s, K: Service + Send + Sync + 's> Lane<'s, K> {
             worker,
             is_busy: _,
         } = self;
-        put(rt, &queues.jobs, &mut puts, Job::Stop);
+        wait_and_put(rt, &queues.jobs, &mut puts, Job::Stop);
         queues.called.unpark();
         let (takes, mut sends) = worker.join(rt);
         queues.jobs.absorb::<Together>(&mut puts, takes);
         queues.jobs.learn_as::<Taken>(&mut puts);
         queues.results.absorb::<Together>(&mut sends, gathers);
         drain(rt, &queues.results, &mut sends);
-        Closed::of(puts, sends)
+        Closed::from_passes(puts, sends)
     }
 }

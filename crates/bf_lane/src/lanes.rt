@@ -68,7 +68,7 @@ impl<'s, K: Service + Send + Sync + 's> Lanes<'s, K> {
     }
 
     /// The first lane that awaits no answer.
-    pub fn idle(&self) -> Option<usize>
+    pub fn first_idle(&self) -> Option<usize>
         ensures { result ≡ position (λ lane. not (awaits lane)) self.now }
     {
         self.lanes.iter().position(|lane| !lane.is_busy())
@@ -91,24 +91,24 @@ impl<'s, K: Service + Send + Sync + 's> Lanes<'s, K> {
     }
 
     /// The answer of one lane, if one is there.
-    fn poll(&mut self, at: usize) -> Option<Answer>
+    fn try_gather_from(&mut self, at: usize) -> Option<Answer>
         requires { at < length self.old }
         ensures some { IfSome result (λ a. IsGathered self.old self.new at a) }
         ensures allowed { IfSome result (IsAllowedBy K.answers K.gives_up) }
         ensures none { IfNone result (self.new ≡ self.old) }
     {
         let lane = &mut self.lanes[at];
-        lane.gather()
+        lane.try_gather()
     }
 
     /// The first answer that is there, once round the lanes.
-    fn round(&mut self) -> Option<(usize, Answer)>
+    fn try_gather_any(&mut self) -> Option<(usize, Answer)>
         ensures some { IfSome result (λ r. IsGathered self.old self.new r.0 r.1) }
         ensures allowed { IfSome result (λ r. IsAllowedBy K.answers K.gives_up r.1) }
         ensures none { IfNone result (self.new ≡ self.old) }
     {
         for at in 0..self.len() {
-            if let Some(answer) = self.poll(at) {
+            if let Some(answer) = self.try_gather_from(at) {
                 return Some((at, answer));
             }
         }
@@ -121,7 +121,7 @@ impl<'s, K: Service + Send + Sync + 's> Lanes<'s, K> {
         ensures allowed { IsAllowedBy K.answers K.gives_up result.1 }
     {
         for _ in rt.forever() {
-            if let Some(answer) = self.round() {
+            if let Some(answer) = self.try_gather_any() {
                 return answer;
             }
             self.answered.park(rt);
@@ -142,7 +142,7 @@ impl<'s, K: Service + Send + Sync + 's> Lanes<'s, K> {
         ensures late { IfNone result (moment ≤ℤ C.last clock.new) }
     {
         for _ in rt.forever() {
-            if let Some(answer) = self.round() {
+            if let Some(answer) = self.try_gather_any() {
                 return Some(answer);
             }
             if moment <= clock.now() {

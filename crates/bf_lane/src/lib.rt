@@ -24,7 +24,7 @@ mod worker;
 
 pub use clock::{Jump, MachineClock, TimeSource};
 pub use closed::Closed;
-pub use lane::{Lane, NotStarted, fresh};
+pub use lane::{Lane, NotStarted, new_queues_and_seats};
 pub use lanes::Lanes;
 pub use messages::{Answer, Job};
 pub use queues::{Queues, Seats};

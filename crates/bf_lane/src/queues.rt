@@ -1,6 +1,6 @@
 //! The parts of a lane.
 use crate::messages::Job;
-use crate::relay::{Line, Seat};
+use crate::relay::{QueuePass, RuledQueue};
 use crate::reply::Reply;
 use crate::service::Service;
 use std::marker::PhantomData;
@@ -9,8 +9,8 @@ use std::thread::{Parker, Promise};
 /// The two queues of a lane.
 #[derive(Drop)]
 pub struct Queues<K: Service> {
-    pub jobs: Line<Job>,
-    pub results: Line<Reply<K>>,
+    pub jobs: RuledQueue<Job>,
+    pub results: RuledQueue<Reply<K>>,
     /// The worker sleeps on it while there is no job.
     pub called: Parker,
 }
@@ -18,10 +18,10 @@ pub struct Queues<K: Service> {
 /// A seat for each kind of step.
 #[derive(Drop)]
 pub struct Seats<K: Service> {
-    pub puts: Seat<Job>,
-    pub takes: Seat<Job>,
-    pub sends: Seat<Reply<K>>,
-    pub gathers: Seat<Reply<K>>,
+    pub puts: QueuePass<Job>,
+    pub takes: QueuePass<Job>,
+    pub sends: QueuePass<Reply<K>>,
+    pub gathers: QueuePass<Reply<K>>,
 }
 
 /// That a worker serves these queues.
@@ -31,7 +31,7 @@ pub struct Serves<'s, K: Service> {
     pub of: PhantomData<K>,
 }
 
-impl<'s, K: Service> Promise<(Seat<Job>, Seat<Reply<K>>)> for Serves<'s, K> {
+impl<'s, K: Service> Promise<(QueuePass<Job>, QueuePass<Reply<K>>)> for Serves<'s, K> {
     ghost use Rattle.bf_lane.specs.Service.{HasServed};
 
     ghost kept_by = { λ p r. HasServed K.answers K.gives_up p.queues.now.jobs p.queues.now.results

@@ -74,7 +74,7 @@ impl<T> Lesson<T, Log<T>> for Taken {
 }
 
 /// A queue under this rule.
-pub type Line<T> = RuledArrayQueue<T, Log<T>, InOrder>;
+pub type RuledQueue<T> = RuledArrayQueue<T, Log<T>, InOrder>;
 
 /// A pass of such a queue.
-pub type Seat<T> = Pass<T, Log<T>>;
+pub type QueuePass<T> = Pass<T, Log<T>>;

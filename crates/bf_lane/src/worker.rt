@@ -9,7 +9,7 @@ ghost use Rattle.bf_lane.specs.declared.messages.Job.{Job};
 ghost use Rattle.bf_lane.specs.declared.messages.Answer.{Answer};
 
 use crate::messages::{Answer, Job};
-use crate::relay::{Line, Put, Seat, Taken};
+use crate::relay::{Put, QueuePass, RuledQueue, Taken};
 use crate::reply::Reply;
 use crate::service::Service;
 use bf_try::{TaskRunner, Ticket};
@@ -17,7 +17,7 @@ use std::sync::Wait;
 use std::thread::{self, Parker};
 
 /// Puts a value in, and tries again while the queue is full.
-pub fn put<W: Wait, T>(rt: &W, line: &Line<T>, seat: &mut Seat<T>, value: T)
+pub fn wait_and_put<W: Wait, T>(rt: &W, line: &RuledQueue<T>, seat: &mut QueuePass<T>, value: T)
     requires seat { IsPassOf line.now seat.old }
     requires puts { (view seat.old).puts ≡ true }
     ensures seat { IsSamePass seat.old seat.new }
@@ -38,7 +38,12 @@ pub fn put<W: Wait, T>(rt: &W, line: &Line<T>, seat: &mut Seat<T>, value: T)
 }
 
 /// Takes a value out, and sleeps until there is one.
-pub fn take<W: Wait, T>(rt: &W, line: &Line<T>, called: &Parker, seat: &mut Seat<T>) -> T
+pub fn wait_and_take<W: Wait, T>(
+    rt: &W,
+    line: &RuledQueue<T>,
+    called: &Parker,
+    seat: &mut QueuePass<T>,
+) -> T
     requires seat { IsPassOf line.now seat.old }
     requires takes { (view seat.old).takes ≡ true }
     ensures seat { IsSamePass seat.old seat.new }
@@ -69,8 +74,8 @@ fn answer_to<K: Service, R: TaskRunner>(runner: &R, ticket: Ticket) -> Reply<K>
 /// Where a worker finds jobs and leaves answers.
 #[derive(Drop)]
 pub struct Desk<'d, K: Service> {
-    pub jobs: &'d Line<Job>,
-    pub results: &'d Line<Reply<K>>,
+    pub jobs: &'d RuledQueue<Job>,
+    pub results: &'d RuledQueue<Reply<K>>,
     /// The worker sleeps on it while there is no job.
     pub called: &'d Parker,
     /// The scheduler sleeps on it while there is no answer.
@@ -81,10 +86,10 @@ pub struct Desk<'d, K: Service> {
 pub fn serve<K: Service, W: Wait, R: TaskRunner>(
     rt: &W,
     desk: Desk<'_, K>,
-    mut takes: Seat<Job>,
-    mut sends: Seat<Reply<K>>,
+    mut takes: QueuePass<Job>,
+    mut sends: QueuePass<Reply<K>>,
     runner: &R,
-) -> (Seat<Job>, Seat<Reply<K>>)
+) -> (QueuePass<Job>, QueuePass<Reply<K>>)
     requires jobs { IsPassOf desk.jobs.now takes × (view takes ≡ log false true [] []) }
     requires results { IsPassOf desk.results.now sends × (view sends ≡ log true false [] []) }
     requires fulfils { Fulfils (R.may_answer runner.now) (R.may_give_up runner.now) K.answers
@@ -93,10 +98,10 @@ pub fn serve<K: Service, W: Wait, R: TaskRunner>(
         result.1 }
 {
     for _ in rt.forever() {
-        match take(rt, desk.jobs, desk.called, &mut takes) {
+        match wait_and_take(rt, desk.jobs, desk.called, &mut takes) {
             Job::Run(ticket) => {
                 let answer = answer_to::<K, R>(runner, ticket);
-                put(rt, desk.results, &mut sends, answer);
+                wait_and_put(rt, desk.results, &mut sends, answer);
                 desk.answered.unpark();
             }
             Job::Stop => return (takes, sends),

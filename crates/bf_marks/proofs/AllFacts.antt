@@ -5,7 +5,7 @@ use Rattle.std.proofs.lemmas.Bool.{false≢true, and_from, cond-true, cases_eq, 
 use Rattle.bf_plan.specs.declared.plan.Dag.{Dag}
 use Rattle.bf_plan.specs.Plans.{task_of}
 use Rattle.bf_plan.specs.Sound.{IsOneOf, IsSound}
-use Rattle.bf_marks.specs.RowOrder.{stands, is_let_go_in, is_source_in, order_from, order_of, tasks_where}
+use Rattle.bf_marks.specs.RowOrder.{stands, is_let_go_in, has_no_upstreams_in, order_from, order_of, tasks_where}
 use Rattle.bf_marks.proofs.BehindFacts.{stands_now, stands_on, nothing_stands, one_of_all}
 use Rattle.bf_marks.proofs.OnceFacts.{Fits, begins, walks_on, set_stands, not_standing}
 
@@ -93,10 +93,10 @@ source_or : (n : ℕ) (us : List ℕ) → ((length us == 0) ≡ true) ⊎ (list_
 source_or n [] = inl refl
 source_or n (u ∷ us) = inr (ap (λ b. b && list_all (stands (replicate n false)) us) (nothing_stands n u))
 
-open_first : (dag : Dag) → Open dag (replicate (length dag.tasks) false) (tasks_where dag (is_source_in dag))
+open_first : (dag : Dag) → Open dag (replicate (length dag.tasks) false) (tasks_where dag (has_no_upstreams_in dag))
 open_first dag x low not_yet =
     elim (source_or (length dag.tasks) (task_of dag x).upstreams) [
-      | inl e ↦ inl (in_kept (is_source_in dag) x (range_with_len 0 (length dag.tasks)) e (in_range 0 (length dag.tasks) x (omega arith) (omega arith)))
+      | inl e ↦ inl (in_kept (has_no_upstreams_in dag) x (range_with_len 0 (length dag.tasks)) e (in_range 0 (length dag.tasks) x (omega arith) (omega arith)))
       | inr e ↦ inr e
     ]
 
@@ -159,4 +159,4 @@ pub order_all : (dag : Dag) → IsSound dag → (x : ℕ) → x < length dag.tas
 unfolding order_of
 order_all dag sound x low =
     let n : ℕ = length dag.tasks in
-    cover dag sound n (replicate n false) (tasks_where dag (is_source_in dag)) (begins dag) (open_first dag) (omega (arith, all_lack n)) x low (nothing_stands n x)
+    cover dag sound n (replicate n false) (tasks_where dag (has_no_upstreams_in dag)) (begins dag) (open_first dag) (omega (arith, all_lack n)) x low (nothing_stands n x)

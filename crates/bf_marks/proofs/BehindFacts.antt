@@ -5,7 +5,7 @@ use Rattle.std.proofs.lemmas.Bool.{false≢true, and_parts, and_from, cond_both,
 use Rattle.bf_plan.specs.declared.plan.Dag.{Dag}
 use Rattle.bf_plan.specs.Plans.{task_of}
 use Rattle.bf_plan.specs.Sound.{IsOneOf}
-use Rattle.bf_marks.specs.RowOrder.{stands, is_let_go_in, is_source_in, order_from, order_of, tasks_where}
+use Rattle.bf_marks.specs.RowOrder.{stands, is_let_go_in, has_no_upstreams_in, order_from, order_of, tasks_where}
 use Rattle.bf_marks.specs.Behind.{IsReady, AreBehind}
 
 -- ---- what stands
@@ -66,11 +66,11 @@ pub no_upstreams : (f : ℕ → Bool) (us : List ℕ) → (length us == 0) ≡ t
 no_upstreams f [] e = refl
 no_upstreams f (u ∷ us) e = let none : length (u ∷ us) ≡ 0 = eqb-true (length (u ∷ us)) 0 e in absurd (omega arith)
 
-sources_ready : (dag : Dag) (s : List Bool) (xs : List ℕ) → AreReady dag s (filter (is_source_in dag) xs)
+sources_ready : (dag : Dag) (s : List Bool) (xs : List ℕ) → AreReady dag s (filter (has_no_upstreams_in dag) xs)
 unfolding AreReady
 sources_ready dag s [] = tt
 sources_ready dag s (x ∷ xs) =
-    cond_both (is_source_in dag x) (x ∷ filter (is_source_in dag) xs) (filter (is_source_in dag) xs) (AreReady dag s)
+    cond_both (has_no_upstreams_in dag x) (x ∷ filter (has_no_upstreams_in dag) xs) (filter (has_no_upstreams_in dag) xs) (AreReady dag s)
     (λ kept. (no_upstreams (stands s) (task_of dag x).upstreams kept, sources_ready dag s xs)) (λ _. sources_ready dag s xs)
 
 -- ---- the order
@@ -98,5 +98,5 @@ pub order_behind : (dag : Dag) (i t u : ℕ) → slice_get (order_of dag) i ≡ 
 unfolding order_of
 order_behind dag i t u is up =
     let none : List Bool = replicate (length dag.tasks) false in
-    let behind = from_behind dag (length dag.tasks) none (tasks_where dag (is_source_in dag)) (sources_ready dag none _) in
+    let behind = from_behind dag (length dag.tasks) none (tasks_where dag (has_no_upstreams_in dag)) (sources_ready dag none _) in
     elim (before dag none _ behind i t u is up) [ inl e ↦ absurd (false≢true (sym (nothing_stands (length dag.tasks) u) ∙ e)) | inr w ↦ w ]

@@ -5,7 +5,7 @@ use Rattle.std.proofs.lemmas.Bool.{false≢true, and_parts, cond_both, eqb-true,
 use Rattle.std.proofs.lemmas.List.{length-replicate}
 use Rattle.bf_plan.specs.declared.plan.Dag.{Dag}
 use Rattle.bf_plan.specs.Plans.{task_of}
-use Rattle.bf_marks.specs.RowOrder.{stands, is_let_go_in, is_source_in, order_from, order_of, tasks_where}
+use Rattle.bf_marks.specs.RowOrder.{stands, is_let_go_in, has_no_upstreams_in, order_from, order_of, tasks_where}
 use Rattle.bf_marks.specs.Behind.{IsReady}
 use Rattle.bf_marks.proofs.BehindFacts.{stands_now, stands_on, all_stand_on, nothing_stands, no_upstreams}
 
@@ -148,17 +148,17 @@ one_place s (t ∷ ts) once zero (suc j) u first second = let same : t ≡ u = c
 one_place s (t ∷ ts) once (suc i) zero u first second = let same : t ≡ u = cc in absurd (no_second s t ts once i u same first)
 one_place s (t ∷ ts) once (suc i) (suc j) u first second = ap suc (one_place (slice_set s t true) ts once.2 i j u first second)
 
-pub begins : (dag : Dag) → Fits dag (replicate (length dag.tasks) false) (tasks_where dag (is_source_in dag))
+pub begins : (dag : Dag) → Fits dag (replicate (length dag.tasks) false) (tasks_where dag (has_no_upstreams_in dag))
 begins dag =
     let n : ℕ = length dag.tasks in
     let none : List Bool = replicate n false in
     let all : List ℕ = range_with_len 0 n in
     let in_all : AllByRecursion (λ x. x < n) all = range_inside 0 n n (omega arith) in
     record {
-      ready = kept (is_source_in dag) (λ x. x < n) (IsReady dag none) (λ x _ e. no_upstreams (stands none) (task_of dag x).upstreams e) all in_all;
-      fresh = kept (is_source_in dag) (λ x. x < n) (λ x. stands none x ≡ false) (λ x _ _. nothing_stands n x) all in_all;
-      apart = apart_kept (is_source_in dag) all (range_apart 0 n);
-      inside = kept (is_source_in dag) (λ x. x < n) (λ x. x < length none) (λ x low _. omega (arith, low, length-replicate n false)) all in_all;
+      ready = kept (has_no_upstreams_in dag) (λ x. x < n) (IsReady dag none) (λ x _ e. no_upstreams (stands none) (task_of dag x).upstreams e) all in_all;
+      fresh = kept (has_no_upstreams_in dag) (λ x. x < n) (λ x. stands none x ≡ false) (λ x _ _. nothing_stands n x) all in_all;
+      apart = apart_kept (has_no_upstreams_in dag) all (range_apart 0 n);
+      inside = kept (has_no_upstreams_in dag) (λ x. x < n) (λ x. x < length none) (λ x low _. omega (arith, low, length-replicate n false)) all in_all;
       closed = λ x now. absurd (false≢true (sym (nothing_stands n x) ∙ now));
       size = length-replicate n false;
     }
@@ -166,4 +166,4 @@ begins dag =
 pub order_once : (dag : Dag) (i j t : ℕ) → slice_get (order_of dag) i ≡ Some t → slice_get (order_of dag) j ≡ Some t → i ≡ j
 unfolding order_of
 order_once dag i j t first second =
-    one_place (replicate (length dag.tasks) false) _ (once_from dag (length dag.tasks) (replicate (length dag.tasks) false) (tasks_where dag (is_source_in dag)) (begins dag)) i j t first second
+    one_place (replicate (length dag.tasks) false) _ (once_from dag (length dag.tasks) (replicate (length dag.tasks) false) (tasks_where dag (has_no_upstreams_in dag)) (begins dag)) i j t first second

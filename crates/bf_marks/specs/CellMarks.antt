@@ -25,16 +25,16 @@ mark_of tally =
     else Skipped)))
 
 -- how bad it is
-abbrev pub weight : Mark → ℕ
-weight Skipped = 0
-weight Success = 1
-weight Retried = 2
-weight NoStatus = 3
-weight UpstreamFailed = 4
-weight Failed = 5
+abbrev pub severity : Mark → ℕ
+severity Skipped = 0
+severity Success = 1
+severity Retried = 2
+severity NoStatus = 3
+severity UpstreamFailed = 4
+severity Failed = 5
 
 abbrev pub worse : Mark → Mark → Mark
-worse a b = if nat_lt (weight a) (weight b) then b else a
+worse a b = if nat_lt (severity a) (severity b) then b else a
 
 -- the worst of a task in the runs of a column
 abbrev pub column_mark : ℕ → List RunReport → Mark
@@ -65,7 +65,7 @@ painted colored code text = if colored then color_start code ++ (text ++ color_e
 abbrev pub between : Option Mark → Mark → List ℕ
 between None mark = color_start (color_code mark)
 between (Some before) mark =
-    if weight before == weight mark then [] else color_end ++ color_start (color_code mark)
+    if severity before == severity mark then [] else color_end ++ color_start (color_code mark)
 
 abbrev pub behind : Option Mark → List ℕ
 behind None = []

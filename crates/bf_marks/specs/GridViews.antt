@@ -4,13 +4,13 @@ use Rattle.jiff.specs.declared.timestamp.Timestamp.{Timestamp}
 use Rattle.bf_marks.specs.declared.view.View.{View}
 
 -- a bound that isn't asked for holds
-abbrev pub is_from_in : Option Timestamp → ℤ → Bool
-is_from_in None start = true
-is_from_in (Some from) start = int_le from.nanosecond start
+abbrev pub starts_from_in : Option Timestamp → ℤ → Bool
+starts_from_in None start = true
+starts_from_in (Some from) start = int_le from.nanosecond start
 
-abbrev pub is_to_in : Option Timestamp → ℤ → Bool
-is_to_in None start = true
-is_to_in (Some to) start = int_le start to.nanosecond
+abbrev pub starts_up_to_in : Option Timestamp → ℤ → Bool
+starts_up_to_in None start = true
+starts_up_to_in (Some to) start = int_le start to.nanosecond
 
 abbrev pub in_range : View → ℤ → Bool
-in_range view start = is_from_in view.from start && is_to_in view.to start
+in_range view start = starts_from_in view.from start && starts_up_to_in view.to start

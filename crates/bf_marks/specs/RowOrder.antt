@@ -18,8 +18,8 @@ is_let_go_in dag standing task other =
     list_any (λ upstream. upstream == task) (task_of dag other).upstreams
     && list_all (stands standing) (task_of dag other).upstreams
 
-abbrev pub is_source_in : Dag → ℕ → Bool
-is_source_in dag task = length (task_of dag task).upstreams == 0
+abbrev pub has_no_upstreams_in : Dag → ℕ → Bool
+has_no_upstreams_in dag task = length (task_of dag task).upstreams == 0
 
 -- of at most n more: behind a task those that it let go, and then what was left
 abbrev pub order_from : Dag → ℕ → List Bool → List ℕ → List ℕ
@@ -33,4 +33,4 @@ order_from dag (suc n) standing (task ∷ left) =
 unfoldable pub order_of : Dag → List ℕ
 order_of dag =
     order_from dag (length dag.tasks) (replicate (length dag.tasks) false)
-    (tasks_where dag (is_source_in dag))
+    (tasks_where dag (has_no_upstreams_in dag))

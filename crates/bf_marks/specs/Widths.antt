@@ -29,8 +29,8 @@ widths_of total states = record {
 }
 
 -- what is left beside them, where a space stands before each
-abbrev pub beside_of : ℕ → ℕ → ℕ
-beside_of width room = if width == 0 then room else room - width - 1
+abbrev pub room_beside_of : ℕ → ℕ → ℕ
+room_beside_of width room = if width == 0 then room else room - width - 1
 
 -- with a space before it
 abbrev pub in_column : ℕ → List ℕ → List ℕ
@@ -54,7 +54,7 @@ heads_text w =
     ++ (in_column w.skipped (codes "s") ++ in_column w.no_status (codes "n"))))
 
 -- how many columns there is room for, and at least 8
-abbrev pub room_in : ℕ → ℕ → Widths → ℕ
-room_in width names w =
-    max 8 (beside_of w.no_status (beside_of w.skipped
-    (beside_of w.upstream_failed (beside_of w.failed (beside_of w.success (width - names - 4))))))
+abbrev pub column_count_in : ℕ → ℕ → Widths → ℕ
+column_count_in width names w =
+    max 8 (room_beside_of w.no_status (room_beside_of w.skipped
+    (room_beside_of w.upstream_failed (room_beside_of w.failed (room_beside_of w.success (width - names - 4))))))

@@ -119,7 +119,7 @@ pub fn fitted(label: &[u8], room: usize) -> &[u8]
 }
 
 /// How many groups at the front are this one.
-fn same_at_front(scale: Scale, group: &[u8], starts: &[Moment]) -> usize
+fn count_same_at_front(scale: Scale, group: &[u8], starts: &[Moment]) -> usize
     ensures count { result ≡ same_first group.now
         (groups_of scale (map (λ start. start.at.nanosecond) starts.now)) }
     ensures within { result ≤ length starts.now }
@@ -146,7 +146,7 @@ fn push_group(
 {
     let mut label = Vec::new(alloc);
     scale.push_label(&mut label, group)?;
-    push_left(text, count, fitted(label.as_slice(), room))
+    push_left_aligned(text, count, fitted(label.as_slice(), room))
 }
 
 /// Adds spaces.
@@ -160,7 +160,7 @@ pub fn push_spaces(text: &mut Vec<u8>, count: usize) -> Result<(), OutOfMemory>
 }
 
 /// Adds a text and spaces behind it, up to a width.
-pub fn push_left(text: &mut Vec<u8>, width: usize, shown: &[u8]) -> Result<(), OutOfMemory>
+pub fn push_left_aligned(text: &mut Vec<u8>, width: usize, shown: &[u8]) -> Result<(), OutOfMemory>
     ensures { OnOk result (text.new.items ≡ text.old.items ++ left width shown.now) }
 {
     push(text, shown)?;
@@ -168,7 +168,7 @@ pub fn push_left(text: &mut Vec<u8>, width: usize, shown: &[u8]) -> Result<(), O
 }
 
 /// Adds a text and spaces before it, up to a width.
-pub fn push_right(text: &mut Vec<u8>, width: usize, shown: &[u8]) -> Result<(), OutOfMemory>
+pub fn push_right_aligned(text: &mut Vec<u8>, width: usize, shown: &[u8]) -> Result<(), OutOfMemory>
     ensures { OnOk result (text.new.items ≡ text.old.items ++ right width shown.now) }
 {
     push_spaces(text, width.saturating_sub(shown.len()))?;
@@ -176,7 +176,7 @@ pub fn push_right(text: &mut Vec<u8>, width: usize, shown: &[u8]) -> Result<(), 
 }
 
 /// How much room the label of so many columns has, the last one as much as it needs.
-fn room_of(count: usize, further: &[Moment]) -> usize
+fn label_room(count: usize, further: &[Moment]) -> usize
     ensures { result ≡ (if length further.now == 0 then max count 99 else count) }
 {
     if further.is_empty() {
@@ -200,9 +200,16 @@ pub fn push_groups(
     while let Some((first, further)) = rest.split_first() {
         let moment = moment_bytes(first.at);
         let group = &moment[..scale.group_size()];
-        let same = same_at_front(scale, group, further);
+        let same = count_same_at_front(scale, group, further);
         rest = &further[same..];
-        push_group(alloc, text, scale, group, same + 1, room_of(same + 1, rest))?;
+        push_group(
+            alloc,
+            text,
+            scale,
+            group,
+            same + 1,
+            label_room(same + 1, rest),
+        )?;
     }
     Ok(())
 }

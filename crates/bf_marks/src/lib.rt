@@ -20,11 +20,13 @@ mod tally;
 mod view;
 mod widths;
 
-pub use label::{Scale, push_digits, push_groups, push_left, push_right, push_spaces};
+pub use label::{
+    Scale, push_digits, push_groups, push_left_aligned, push_right_aligned, push_spaces,
+};
 pub use laws::{each_task_has_a_row, no_row_stands_twice, rows_stand_behind_their_upstreams};
 pub use mark::{Mark, mark_in, push_marks, push_painted};
-pub use phrases::{push, push_listed, push_moment, push_number, push_plural};
+pub use phrases::{push, push_counted_noun, push_listed_moments, push_moment, push_number};
 pub use row_order::tasks_in_order;
-pub use tally::{Tally, run_tally, states_in, states_of, tally_at, tally_in};
+pub use tally::{Tally, run_tally, tally_at, tally_in, tally_of_run_states, tally_of_shown_states};
 pub use view::View;
-pub use widths::{Widths, push_cut_name, room_of};
+pub use widths::{Widths, column_count_of, push_cut_name};

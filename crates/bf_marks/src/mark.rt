@@ -1,6 +1,6 @@
 //! The marks of the grid.
 ghost use Rattle.std.specs.Prelude.{◌≡◌, ◌++◌, None, map, IfOk, OnOk};
-ghost use Rattle.bf_marks.specs.CellMarks.{behind, between, color_code, color_end, color_start, colored_marks, column_mark, mark_letter, mark_of, marks_text, painted, weight, worse};
+ghost use Rattle.bf_marks.specs.CellMarks.{behind, between, color_code, color_end, color_start, colored_marks, column_mark, mark_letter, mark_of, marks_text, painted, severity, worse};
 
 use crate::phrases::push;
 use crate::tally::{Tally, tally_at};
@@ -43,8 +43,8 @@ impl Mark {
         }
     }
 
-    pub fn weight(self) -> u8
-        ensures { result ≡ weight self }
+    pub fn severity(self) -> u8
+        ensures { result ≡ severity self }
     {
         match self {
             Mark::Skipped => 0,
@@ -60,7 +60,7 @@ impl Mark {
     pub fn worse(self, other: Mark) -> Mark
         ensures { result ≡ worse self other }
     {
-        if self.weight() < other.weight() {
+        if self.severity() < other.severity() {
             other
         } else {
             self
@@ -122,11 +122,15 @@ pub fn push_painted(
 }
 
 /// Adds what stands before a mark behind another.
-fn push_between(text: &mut Vec<u8>, before: Option<Mark>, mark: Mark) -> Result<(), OutOfMemory>
+fn push_color_change(
+    text: &mut Vec<u8>,
+    before: Option<Mark>,
+    mark: Mark,
+) -> Result<(), OutOfMemory>
     ensures { OnOk result (text.new.items ≡ text.old.items ++ between before mark) }
 {
     if let Some(before) = before {
-        if before.weight() == mark.weight() {
+        if before.severity() == mark.severity() {
             return Ok(());
         }
         push(text, COLOR_END.as_bytes())?;
@@ -140,7 +144,7 @@ fn push_colored_marks(text: &mut Vec<u8>, marks: &[Mark]) -> Result<(), OutOfMem
 {
     let mut before = None;
     for mark in marks {
-        push_between(text, before, *mark)?;
+        push_color_change(text, before, *mark)?;
         push(text, mark.letter().as_bytes())?;
         before = Some(*mark);
     }

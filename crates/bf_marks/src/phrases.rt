@@ -2,8 +2,8 @@
 ghost use Rattle.std.specs.Prelude.{◌≡◌, ◌≤◌, ◌++◌, IfOk, OnOk, length};
 ghost use Rattle.std.specs.Str.{IsAscii};
 ghost use Rattle.bf_moment.specs.Moment.{IsShown};
-ghost use Rattle.bf_wording.specs.Lists.{listed_of};
-ghost use Rattle.bf_wording.specs.Numbers.{number_text, plural_of};
+ghost use Rattle.bf_wording.specs.Lists.{name_list_of};
+ghost use Rattle.bf_wording.specs.Numbers.{number_text, count_text_of};
 ghost use Rattle.bf_marks.specs.Phrases.{short_moment_of, short_moments, without_midnight};
 
 use bf_moment::{Moment, moment_bytes};
@@ -29,16 +29,16 @@ pub fn push_number(alloc: Global, text: &mut Vec<u8>, number: u64) -> Result<(),
 }
 
 /// Adds how many there are, as `1 run` or `2 runs`.
-pub fn push_plural(
+pub fn push_counted_noun(
     alloc: Global,
     text: &mut Vec<u8>,
     number: u64,
     noun: &str,
 ) -> Result<(), OutOfMemory>
-    ensures { OnOk result (text.new.items ≡ text.old.items ++ plural_of number noun.now) }
+    ensures { OnOk result (text.new.items ≡ text.old.items ++ count_text_of number noun.now) }
 {
     let mut shown = String::new(alloc);
-    bf_wording::push_plural(alloc, &mut shown, number, noun)?;
+    bf_wording::push_count(alloc, &mut shown, number, noun)?;
     push(text, shown.as_bytes())
 }
 
@@ -64,33 +64,37 @@ pub fn push_moment(text: &mut Vec<u8>, moment: Timestamp) -> Result<(), OutOfMem
 }
 
 /// The text of a moment, as short as it is written on a line.
-fn short_name(alloc: Global, moment: Moment) -> Result<Text, OutOfMemory>
+fn short_moment_text(alloc: Global, moment: Moment) -> Result<Text, OutOfMemory>
     ensures { IfOk result (λ name. name ≡ short_moment_of moment.at.nanosecond) }
 {
     let bytes = moment_bytes(moment.at);
     let Ok(text) = std::str::from_utf8(short_moment(&bytes)) else {
         unreachable!();
     };
-    Text::copied(alloc, text)
+    Text::copy_of(alloc, text)
 }
 
-fn short_names(alloc: Global, moments: &[Moment]) -> Result<Vec<Text>, OutOfMemory>
+fn short_moment_texts(alloc: Global, moments: &[Moment]) -> Result<Vec<Text>, OutOfMemory>
     ensures { IfOk result (λ names. names.items ≡ short_moments moments.now) }
 {
     let mut names = Vec::with_capacity(alloc, moments.len())?;
     for moment in moments {
-        names.push(short_name(alloc, *moment)?)?;
+        names.push(short_moment_text(alloc, *moment)?)?;
     }
     Ok(names)
 }
 
 /// Adds moments, as `2024-01-25, 2024-01-31 and 2024-02-05`; of more than four three, and how many more there are.
-pub fn push_listed(alloc: Global, text: &mut Vec<u8>, moments: &[Moment]) -> Result<(), OutOfMemory>
+pub fn push_listed_moments(
+    alloc: Global,
+    text: &mut Vec<u8>,
+    moments: &[Moment],
+) -> Result<(), OutOfMemory>
     ensures { OnOk result (text.new.items
-        ≡ text.old.items ++ listed_of 3 (short_moments moments.now)) }
+        ≡ text.old.items ++ name_list_of 3 (short_moments moments.now)) }
 {
-    let names = short_names(alloc, moments)?;
+    let names = short_moment_texts(alloc, moments)?;
     let mut shown = String::new(alloc);
-    bf_wording::push_listed(alloc, &mut shown, names.as_slice(), 3)?;
+    bf_wording::push_name_list(alloc, &mut shown, names.as_slice(), 3)?;
     push(text, shown.as_bytes())
 }

@@ -3,16 +3,16 @@ ghost use Rattle.std.specs.Prelude.{◌≡◌, ◌<◌, ◌==◌, ℕ, List, [],
 ghost use Rattle.std.specs.List.{list_any, list_all};
 ghost use Rattle.bf_plan.specs.Plans.{task_of};
 ghost use Rattle.bf_plan.specs.Sound.{IsSound};
-ghost use Rattle.bf_marks.specs.RowOrder.{is_let_go_in, is_source_in, order_of, stands, tasks_where};
+ghost use Rattle.bf_marks.specs.RowOrder.{is_let_go_in, has_no_upstreams_in, order_of, stands, tasks_where};
 ghost use Rattle.bf_marks.specs.Walk.{GoesOnBy};
 
 use bf_plan::Dag;
 use bf_value::OutOfMemory;
 use std::alloc::Global;
 
-fn is_source(dag: &Dag, task: u32) -> bool
+fn has_no_upstreams(dag: &Dag, task: u32) -> bool
     requires { task < length dag.now.tasks }
-    ensures { result ≡ is_source_in dag.now task }
+    ensures { result ≡ has_no_upstreams_in dag.now task }
 {
     dag.task(task).upstreams.is_empty()
 }
@@ -32,7 +32,7 @@ fn stands_in(standing: &[bool], task: u32) -> bool
     }
 }
 
-fn let_stand(standing: &mut Vec<bool>, task: u32)
+fn mark_standing(standing: &mut Vec<bool>, task: u32)
     ensures { standing.new.items ≡ slice_set standing.old.items task true }
 {
     if let Some(stands) = standing.get_mut(task as usize) {
@@ -78,13 +78,13 @@ fn let_go_by(
 }
 
 /// The tasks without upstreams, in file order.
-fn sources(alloc: Global, dag: &Dag) -> Result<Vec<u32>, OutOfMemory>
+fn tasks_without_upstreams(alloc: Global, dag: &Dag) -> Result<Vec<u32>, OutOfMemory>
     requires { IsSound dag.now }
-    ensures { IfOk result (λ tasks. tasks.items ≡ tasks_where dag.now (is_source_in dag.now)) }
+    ensures { IfOk result (λ tasks. tasks.items ≡ tasks_where dag.now (has_no_upstreams_in dag.now)) }
 {
     let mut found = Vec::new(alloc);
     for task in 0..dag.tasks.len() as u32 {
-        if is_source(dag, task) {
+        if has_no_upstreams(dag, task) {
             found.push(task)?;
         }
     }
@@ -108,7 +108,7 @@ impl Walk {
         let Some(task) = self.left.pop() else {
             return Ok(None);
         };
-        let_stand(&mut self.standing, task);
+        mark_standing(&mut self.standing, task);
         let mut more = let_go_by(alloc, dag, self.standing.as_slice(), task)?;
         more.reverse();
         self.left.extend_from_slice(more.as_slice())?;
@@ -121,10 +121,10 @@ fn first_walk(alloc: Global, dag: &Dag) -> Result<Walk, OutOfMemory>
     ensures standing { IfOk result
         (λ walk. walk.standing.items ≡ replicate (length dag.now.tasks) false) }
     ensures left { IfOk result (λ walk. reverse walk.left.items
-        ≡ tasks_where dag.now (is_source_in dag.now)) }
+        ≡ tasks_where dag.now (has_no_upstreams_in dag.now)) }
 {
     let standing = vec![in alloc; false; dag.tasks.len()]?;
-    let mut left = sources(alloc, dag)?;
+    let mut left = tasks_without_upstreams(alloc, dag)?;
     left.reverse();
     Ok(Walk { standing, left })
 }

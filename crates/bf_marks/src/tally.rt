@@ -35,7 +35,7 @@ impl Tally {
     }
 
     /// Of an instance that ended so.
-    fn ended(instance: &TaskResult) -> Tally
+    fn of_ended(instance: &TaskResult) -> Tally
         ensures { result ≡ one_ended instance.now.outcome instance.now.tries }
     {
         let retried = instance.tries > 1;
@@ -85,7 +85,7 @@ fn tally_of_instance(alloc: Global, instance: &InstanceReport) -> Result<Tally, 
     ensures { IfOk result (λ tally. tally ≡ instance_tally instance.now) }
 {
     let ended = instance.result(alloc)?;
-    Ok(Tally::ended(&ended))
+    Ok(Tally::of_ended(&ended))
 }
 
 fn tally_of_instances(alloc: Global, instances: &[InstanceReport]) -> Result<Tally, OutOfMemory>
@@ -161,7 +161,7 @@ fn state_tally(state: RunState) -> Tally
 }
 
 /// Of the runs themselves.
-pub fn states_of(runs: &[RunReport]) -> Tally
+pub fn tally_of_run_states(runs: &[RunReport]) -> Tally
     ensures { result ≡ states_tally runs.now }
 {
     let mut tally = Tally::nothing();
@@ -172,7 +172,7 @@ pub fn states_of(runs: &[RunReport]) -> Tally
 }
 
 /// The same of some runs.
-pub fn states_in(runs: &[&RunReport]) -> Tally
+pub fn tally_of_shown_states(runs: &[&RunReport]) -> Tally
     ensures { result ≡ states_tally (map (λ run. run.now) runs.now) }
 {
     let mut tally = Tally::nothing();

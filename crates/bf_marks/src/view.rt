@@ -1,6 +1,6 @@
 //! What is asked of a grid.
 ghost use Rattle.std.specs.Prelude.{◌≡◌};
-ghost use Rattle.bf_marks.specs.GridViews.{in_range, is_from_in, is_to_in};
+ghost use Rattle.bf_marks.specs.GridViews.{in_range, starts_from_in, starts_up_to_in};
 
 use jiff::Timestamp;
 
@@ -17,15 +17,15 @@ pub struct View {
 
 impl View {
     /// Whether a run that starts then lies in the range.
-    pub fn has(&self, start: Timestamp) -> bool
+    pub fn has_start(&self, start: Timestamp) -> bool
         ensures { result ≡ in_range self.now start.nanosecond }
     {
-        is_from(self.from, start) && is_to(self.to, start)
+        starts_from(self.from, start) && starts_up_to(self.to, start)
     }
 }
 
-fn is_from(from: Option<Timestamp>, start: Timestamp) -> bool
-    ensures { result ≡ is_from_in from start.nanosecond }
+fn starts_from(from: Option<Timestamp>, start: Timestamp) -> bool
+    ensures { result ≡ starts_from_in from start.nanosecond }
 {
     match from {
         Some(from) => from.as_nanosecond() <= start.as_nanosecond(),
@@ -33,8 +33,8 @@ fn is_from(from: Option<Timestamp>, start: Timestamp) -> bool
     }
 }
 
-fn is_to(to: Option<Timestamp>, start: Timestamp) -> bool
-    ensures { result ≡ is_to_in to start.nanosecond }
+fn starts_up_to(to: Option<Timestamp>, start: Timestamp) -> bool
+    ensures { result ≡ starts_up_to_in to start.nanosecond }
 {
     match to {
         Some(to) => start.as_nanosecond() <= to.as_nanosecond(),

@@ -1,8 +1,8 @@
 //! How wide the parts of a grid are.
 ghost use Rattle.std.specs.Prelude.{◌≡◌, ◌≤◌, ◌++◌, OnOk, IfOk};
-ghost use Rattle.bf_marks.specs.Widths.{beside_of, cut_name, heads_text, in_column, room_in, sum_text, sums_text, width_in, widths_of};
+ghost use Rattle.bf_marks.specs.Widths.{room_beside_of, cut_name, heads_text, in_column, column_count_in, sum_text, sums_text, width_in, widths_of};
 
-use crate::label::push_right;
+use crate::label::push_right_aligned;
 use crate::phrases::{push, push_number};
 use crate::tally::Tally;
 use bf_value::OutOfMemory;
@@ -37,7 +37,7 @@ fn push_in_column(text: &mut Vec<u8>, width: usize, shown: &[u8]) -> Result<(), 
         return Ok(());
     }
     push(text, b" ")?;
-    push_right(text, width, shown)
+    push_right_aligned(text, width, shown)
 }
 
 /// Adds a sum, and nothing for 0.
@@ -109,8 +109,8 @@ pub fn push_cut_name(text: &mut Vec<u8>, room: usize, name: &[u8]) -> Result<(),
 }
 
 /// What is left beside the sums of a state.
-fn beside(width: usize, room: usize) -> usize
-    ensures { result ≡ beside_of width_in room }
+fn room_beside(width: usize, room: usize) -> usize
+    ensures { result ≡ room_beside_of width_in room }
 {
     if width == 0 {
         room
@@ -120,14 +120,14 @@ fn beside(width: usize, room: usize) -> usize
 }
 
 /// How many columns there is room for.
-pub fn room_of(width: usize, names: usize, widths: Widths) -> usize
-    ensures room { result ≡ room_in width_in names widths }
+pub fn column_count_of(width: usize, names: usize, widths: Widths) -> usize
+    ensures room { result ≡ column_count_in width_in names widths }
     ensures some { 8 ≤ result }
 {
     let room = width.saturating_sub(names).saturating_sub(4);
-    let room = beside(widths.success, room);
-    let room = beside(widths.failed, room);
-    let room = beside(widths.upstream_failed, room);
-    let room = beside(widths.skipped, room);
-    beside(widths.no_status, room).max(8)
+    let room = room_beside(widths.success, room);
+    let room = room_beside(widths.failed, room);
+    let room = room_beside(widths.upstream_failed, room);
+    let room = room_beside(widths.skipped, room);
+    room_beside(widths.no_status, room).max(8)
 }

@@ -10,6 +10,6 @@ pub fn moments_differ_in_text()
 {}
 
 /// The texts of the long form are those that are written of moments.
-pub fn long_form()
+pub fn long_form_is_what_is_written()
     ensures { (text : List ℕ) → (is_long text ≡ true) ↔ IsTextOfMoment text }
 {}

@@ -7,6 +7,6 @@ mod laws;
 mod moment;
 mod reading;
 
-pub use laws::{long_form, moments_differ_in_text};
+pub use laws::{long_form_is_what_is_written, moments_differ_in_text};
 pub use moment::{Moment, moment_bytes};
 pub use reading::{is_long_moment, moment_in};

@@ -9,7 +9,7 @@ use jiff::civil::DateTime;
 use jiff::tz::Offset;
 use std::fmt;
 
-fn shown(at: DateTime) -> (u16, u8, u8, u8, u8, u8)
+fn civil_fields_of(at: DateTime) -> (u16, u8, u8, u8, u8, u8)
     requires { IsShownDate at.date }
     ensures value { result ≡ fields at }
     ensures bounds { (result.0 < 10_000) × (result.1 < 100) × (result.2 < 100)
@@ -25,7 +25,7 @@ fn shown(at: DateTime) -> (u16, u8, u8, u8, u8, u8)
     )
 }
 
-fn digit(n: u16) -> u8
+fn ascii_digit_of(n: u16) -> u8
     requires { n < 10 }
     ensures { result ≡ 48 + n }
 {
@@ -37,27 +37,27 @@ fn clock_bytes(at: DateTime) -> [u8; 20]
     ensures text { result ≡ clock_text at }
     ensures ascii { IsAscii result }
 {
-    let (year, month, day, hour, minute, second) = shown(at);
+    let (year, month, day, hour, minute, second) = civil_fields_of(at);
     [
-        digit(year / 1000),
-        digit(year / 100 % 10),
-        digit(year / 10 % 10),
-        digit(year % 10),
+        ascii_digit_of(year / 1000),
+        ascii_digit_of(year / 100 % 10),
+        ascii_digit_of(year / 10 % 10),
+        ascii_digit_of(year % 10),
         b'-',
-        digit(u16::from(month) / 10),
-        digit(u16::from(month) % 10),
+        ascii_digit_of(u16::from(month) / 10),
+        ascii_digit_of(u16::from(month) % 10),
         b'-',
-        digit(u16::from(day) / 10),
-        digit(u16::from(day) % 10),
+        ascii_digit_of(u16::from(day) / 10),
+        ascii_digit_of(u16::from(day) % 10),
         b'T',
-        digit(u16::from(hour) / 10),
-        digit(u16::from(hour) % 10),
+        ascii_digit_of(u16::from(hour) / 10),
+        ascii_digit_of(u16::from(hour) % 10),
         b':',
-        digit(u16::from(minute) / 10),
-        digit(u16::from(minute) % 10),
+        ascii_digit_of(u16::from(minute) / 10),
+        ascii_digit_of(u16::from(minute) % 10),
         b':',
-        digit(u16::from(second) / 10),
-        digit(u16::from(second) % 10),
+        ascii_digit_of(u16::from(second) / 10),
+        ascii_digit_of(u16::from(second) % 10),
         b'Z',
     ]
 }

@@ -10,7 +10,7 @@ use jiff::Timestamp;
 use jiff::civil::{Date, DateTime, Time};
 use jiff::tz::Offset;
 
-fn two_digits(tens: u8, ones: u8) -> Option<u8>
+fn number_of_two_digits(tens: u8, ones: u8) -> Option<u8>
     ensures found { IfSome result (λ n. (n < 100) × (two n ≡ tens ∷ ones ∷ [])) }
     ensures none { IfNone result ((n : ℕ) → n < 100 → two n ≡ tens ∷ ones ∷ [] → ⊥) }
 {
@@ -20,11 +20,11 @@ fn two_digits(tens: u8, ones: u8) -> Option<u8>
     Some(10 * (tens - b'0') + (ones - b'0'))
 }
 
-fn four_digits(a: u8, b: u8, c: u8, d: u8) -> Option<u16>
+fn number_of_four_digits(a: u8, b: u8, c: u8, d: u8) -> Option<u16>
     ensures found { IfSome result (λ n. (n < 10_000) × (four n ≡ a ∷ b ∷ c ∷ d ∷ [])) }
     ensures none { IfNone result ((n : ℕ) → n < 10_000 → four n ≡ a ∷ b ∷ c ∷ d ∷ [] → ⊥) }
 {
-    let (high, low) = (two_digits(a, b)?, two_digits(c, d)?);
+    let (high, low) = (number_of_two_digits(a, b)?, number_of_two_digits(c, d)?);
     Some(100 * u16::from(high) + u16::from(low))
 }
 
@@ -36,9 +36,9 @@ fn date_in(text: &[u8]) -> Option<Date>
         return None;
     };
     let (year, month, day) = (
-        four_digits(*y, *e, *a, *r)?,
-        two_digits(*m, *o)?,
-        two_digits(*d, *i)?,
+        number_of_four_digits(*y, *e, *a, *r)?,
+        number_of_two_digits(*m, *o)?,
+        number_of_two_digits(*d, *i)?,
     );
     match Date::new(year as i16, month as i8, day as i8) {
         Ok(date) => Some(date),
@@ -55,9 +55,9 @@ fn time_in(text: &[u8]) -> Option<Time>
         return None;
     };
     let (hour, minute, second) = (
-        two_digits(*h, *o)?,
-        two_digits(*m, *i)?,
-        two_digits(*s, *e)?,
+        number_of_two_digits(*h, *o)?,
+        number_of_two_digits(*m, *i)?,
+        number_of_two_digits(*s, *e)?,
     );
     match Time::new(hour as i8, minute as i8, second as i8, 0) {
         Ok(time) => Some(time),

@@ -36,7 +36,7 @@ fn first_byte(text: &[u8]) -> &[u8]
 }
 
 /// How the first bytes stand, as they lie in memory, and the text behind these.
-pub(crate) fn first_of(text: &[u8]) -> (&[u8], &[u8])
+pub(crate) fn split_safe_front(text: &[u8]) -> (&[u8], &[u8])
     requires { 0 < length text.now }
     ensures all { safe text.now ≡ result.0.now ++ safe result.1.now }
     ensures some { 0 < length result.0.now }

@@ -5,7 +5,7 @@ ghost use Rattle.bf_device.specs.Device.{sent, HasHalted, HasGoneOn};
 ghost use Rattle.bf_page.specs.Page.{EndsAt};
 ghost use Rattle.bf_page.specs.Pieces.{piece_text, behind, steps_behind, left};
 
-use crate::safe::first_of;
+use crate::safe::split_safe_front;
 use bf_device::{Cause, Halt, MOST_INTERRUPTIONS, Write, WriteFault};
 
 /// A piece that is fixed, and the text that is told behind it.
@@ -24,14 +24,14 @@ pub(crate) struct Rest<'a> {
 }
 
 /// Brings the next bytes to the front. There may be none, and more pieces behind them.
-fn brought<'a>(told: &'a [u8], pieces: &'a [Piece<'a>]) -> Option<Rest<'a>>
+fn next_rest<'a>(told: &'a [u8], pieces: &'a [Piece<'a>]) -> Option<Rest<'a>>
     ensures none { IfNone result (behind told.now pieces.now ≡ []) }
     ensures some { IfSome result (λ rest. left rest ≡ behind told.now pieces.now) }
     ensures fewer { IfSome result (λ rest.
         steps_behind rest.told.now rest.pieces.now < steps_behind told.now pieces.now) }
 {
     if !told.is_empty() {
-        let (front, told) = first_of(told);
+        let (front, told) = split_safe_front(told);
         return Some(Rest {
             front,
             told,
@@ -80,7 +80,7 @@ pub(crate) fn send_pieces<W: Write>(out: &mut W, pieces: &[Piece<'_>]) -> Result
     let mut interruptions = 0;
     loop {
         if rest.front.is_empty() {
-            match brought(rest.told, rest.pieces) {
+            match next_rest(rest.told, rest.pieces) {
                 Some(more) => rest = more,
                 None => return Ok(()),
             }

@@ -56,7 +56,7 @@ fn make_try<R: TaskRunner>(
 {
     let _replayed = scheduler.journal();
     let done = answer_to(runner, ticket)?;
-    scheduler.finish_running(done)?;
+    scheduler.finish_allowed(done)?;
     Ok(())
 }
 

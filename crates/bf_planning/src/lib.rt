@@ -10,6 +10,6 @@ mod plan;
 mod range;
 
 pub use check::{GraphSize, check_graph};
-pub use list::run_list;
+pub use list::write_list;
 pub use plan::{DatedPlan, TimedPlan, dated_plan_in, table_in, timed_plan_in};
 pub use range::{MomentRange, RunRange, Starts};

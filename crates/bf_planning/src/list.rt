@@ -24,7 +24,7 @@ fn push_interval(text: &mut String, interval: &Interval) -> Result<(), OutOfMemo
 }
 
 /// A line for each interval: its start and its end, separated by a space.
-fn text_of(alloc: Global, intervals: &[Interval]) -> Result<String, OutOfMemory>
+fn text_of_intervals(alloc: Global, intervals: &[Interval]) -> Result<String, OutOfMemory>
     requires { All IsSince1970 intervals.now }
     ensures { IfOk result (λ text. string_bytes text ≡ intervals_text intervals.now) }
 {
@@ -36,7 +36,7 @@ fn text_of(alloc: Global, intervals: &[Interval]) -> Result<String, OutOfMemory>
 }
 
 /// Writes a line for each data interval of the graph's schedule that starts in the range, its ends included, in order.
-pub fn run_list<W: Write>(
+pub fn write_list<W: Write>(
     alloc: Global,
     graph: &[u8],
     zone_file: Option<&[u8]>,
@@ -54,7 +54,7 @@ pub fn run_list<W: Write>(
         (W.written out.old) (W.written out.new)) }
 {
     let runs = dated_plan_in(alloc, graph, zone_file, range)?.runs;
-    let text = text_of(alloc, runs.intervals())?;
+    let text = text_of_intervals(alloc, runs.intervals())?;
     send(out, text.as_bytes())?;
     Ok(())
 }

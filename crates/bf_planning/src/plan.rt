@@ -32,7 +32,7 @@ pub struct TimedPlan {
 
 impl TimedPlan {
     /// A run for each data interval of the plan's schedule that starts there.
-    fn listed(&self, alloc: Global, starts: Starts) -> Result<Runs, IntervalFault>
+    fn runs_from_starts(&self, alloc: Global, starts: Starts) -> Result<Runs, IntervalFault>
         requires { IsSaid self.now.plan.schedule }
         ensures { (zone : TimeZone) × IsZoneOf self.now.zone zone
             × IsStartsAnswer self.now.plan.schedule zone starts result }
@@ -44,7 +44,7 @@ impl TimedPlan {
             }
             Starts::On(days) => {
                 let intervals = intervals_on(alloc, self.plan.schedule(), &zone, days)?;
-                Ok(Runs::of(intervals))
+                Ok(Runs::from_intervals(intervals))
             }
         }
     }
@@ -59,7 +59,7 @@ impl TimedPlan {
             → IsTimed graph file self.now.plan.schedule self.now.zone
             → IsRangeFault graph file range f) }
     {
-        let runs = self.listed(alloc, range.starts)?;
+        let runs = self.runs_from_starts(alloc, range.starts)?;
         if range.some && runs.count() == 0 {
             return Err(CommandFault::Range(RangeFault::NoRuns));
         }
@@ -77,7 +77,7 @@ impl TimedPlan {
     }
 
     /// With a run for each data interval of the plan's schedule that starts in the range.
-    pub fn dated(self, alloc: Global, range: RunRange) -> Result<DatedPlan, CommandFault>
+    pub fn into_dated(self, alloc: Global, range: RunRange) -> Result<DatedPlan, CommandFault>
         requires { IsSaid self.plan.schedule }
         ensures plan { IfOk result (λ dated. dated.plan ≡ self.plan) }
         ensures listing { IfOk result (λ dated. (graph : List ℕ) (file : Option (List ℕ))
@@ -163,5 +163,5 @@ pub fn dated_plan_in(
         range) }
 {
     let timed = timed_plan_in(alloc, graph, zone_file)?;
-    timed.dated(alloc, range)
+    timed.into_dated(alloc, range)
 }

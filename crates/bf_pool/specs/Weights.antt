@@ -28,11 +28,11 @@ abbrev pub tasks_counting : WeightRule → List (List ℕ) → ℕ → List ℕ
 tasks_counting rule ups t = filter (counts_for rule ups t) (range_with_len 0 (length ups))
 
 -- the weights of tasks in all
-abbrev pub weights_of : Limits → List ℕ → ℕ
-weights_of limits tasks = sum_by (λ t. (demand_of limits t).weight) tasks
+abbrev pub weight_sum_of : Limits → List ℕ → ℕ
+weight_sum_of limits tasks = sum_by (λ t. (demand_of limits t).weight) tasks
 
 -- a task's own weight, and those of the distinct tasks that count for it by its weight rule
 abbrev pub total_weight_of : Dag → Limits → ℕ → ℕ
 total_weight_of dag limits t =
-    let own = demand_of limits t in own.weight + weights_of limits
+    let own = demand_of limits t in own.weight + weight_sum_of limits
     (tasks_counting own.weight_rule (shape_of dag).upstreams t)

@@ -1,7 +1,7 @@
 //! The weight of a task, which says whose waiting instance begins first (Airflow's "Priority Weights").
 ghost use Rattle.std.specs.Prelude.{◌≡◌, ◌<◌, ◌≤◌, ℕ, length, All, IfOk};
 ghost use Rattle.bf_plan.specs.Sound.{demand_of};
-ghost use Rattle.bf_pool.specs.Weights.{tasks_counting, weights_of, total_weight_of};
+ghost use Rattle.bf_pool.specs.Weights.{tasks_counting, weight_sum_of, total_weight_of};
 
 use bf_graph::Graph;
 use bf_plan::{Limits, Plan, WeightRule};
@@ -9,7 +9,7 @@ use bf_value::OutOfMemory;
 use std::alloc::Global;
 
 /// The tasks that count for a task beside itself.
-fn counting(
+fn tasks_counting_for(
     alloc: Global,
     graph: &Graph,
     rule: WeightRule,
@@ -18,8 +18,8 @@ fn counting(
     requires { task < length graph.now.upstreams }
     ensures { IfOk result (λ tasks. tasks.items ≡ tasks_counting rule graph.now.upstreams task) }
 {
-    graph.ranks();
-    graph.in_range();
+    graph.tasks_have_ranks();
+    graph.upstreams_are_in_range();
     match rule {
         WeightRule::Downstream => graph.descendants(alloc, task),
         WeightRule::Upstream => graph.ancestors(alloc, task),
@@ -28,11 +28,11 @@ fn counting(
 }
 
 /// The weights of tasks in all.
-fn weights(limits: &Limits, tasks: &[u32]) -> u32
+fn weight_sum(limits: &Limits, tasks: &[u32]) -> u32
     requires few { length tasks.now ≤ 2_000 }
     requires there { All (λ t. t < length limits.now.demands) tasks.now }
     requires light { (t : ℕ) → (demand_of limits.now t).weight ≤ 1_000_000 }
-    ensures sum { result ≡ weights_of limits.now tasks.now }
+    ensures sum { result ≡ weight_sum_of limits.now tasks.now }
     ensures bound { result ≤ 2_000_000_000 }
 {
     let mut total = 0;
@@ -50,6 +50,6 @@ pub fn total_weight(alloc: Global, plan: &Plan, task: u32) -> Result<u32, OutOfM
 {
     let _dag = plan.dag();
     let own = plan.demand(task);
-    let tasks = counting(alloc, plan.graph(), own.weight_rule, task)?;
-    Ok(own.weight + weights(plan.limits(), tasks.as_slice()))
+    let tasks = tasks_counting_for(alloc, plan.graph(), own.weight_rule, task)?;
+    Ok(own.weight + weight_sum(plan.limits(), tasks.as_slice()))
 }

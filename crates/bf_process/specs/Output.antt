@@ -17,5 +17,5 @@ exit_in (Some code) = Exit.Code code
 exit_in None = Exit.Signal
 
 -- nothing was started, and nothing printed
-abbrev pub not_started_of : Raw
-not_started_of = record { exit = Exit.NotStarted; line = Line.Bytes [] }
+abbrev pub not_started_raw_of : Raw
+not_started_raw_of = record { exit = Exit.NotStarted; line = Line.Bytes [] }

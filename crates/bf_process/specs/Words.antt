@@ -15,7 +15,7 @@ use Rattle.bf_process.specs.declared.launching.Launching.{Launching}
 use Rattle.bf_process.specs.declared.setting.Setting.{Setting}
 use Rattle.bf_process.specs.Clocks.{clock_of}
 use Rattle.bf_process.specs.Environment.{environment_of}
-use Rattle.bf_process.specs.Output.{not_started_of}
+use Rattle.bf_process.specs.Output.{not_started_raw_of}
 
 -- ---- what is started
 
@@ -129,7 +129,7 @@ IsLost may_lose try = IfProgram try.words ⊥ (may_lose try)
 -- what the try of this name may answer, given this: what is heard of its words; a try of no task or of no run isn't started
 abbrev pub MayAnswer : (Tried → Raw → Type 0) → Dag → List Interval → JobName → Given → Raw → Type 0
 MayAnswer may_hear dag intervals name given raw =
-    HoldsOfTry (raw ≡ not_started_of) (λ try. IsHeard may_hear try raw) dag name given
+    HoldsOfTry (raw ≡ not_started_raw_of) (λ try. IsHeard may_hear try raw) dag name given
     (slice_get dag.tasks name.task) (slice_get intervals name.run)
 
 -- the try of this name, given this, is given up only where its program is lost

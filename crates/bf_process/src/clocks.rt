@@ -70,7 +70,7 @@ fn text_of_ascii(alloc: Global, bytes: &[u8]) -> Result<String, OutOfMemory>
 
 /// The date that a clock shows, as `2024-03-04`.
 #[tactic(auto, unfolding(bf_moment::specs::Moment::moment_text))]
-pub(crate) fn date(alloc: Global, clock: &Moment) -> Result<String, OutOfMemory>
+pub(crate) fn text_of_date(alloc: Global, clock: &Moment) -> Result<String, OutOfMemory>
     ensures { IfOk result (λ text. string_bytes text ≡ date_text clock.now.at.nanosecond) }
 {
     let [y, e, a, r, after_year, m, o, after_month, d, i, ..] = moment_bytes(clock.at);

@@ -35,9 +35,9 @@ fn id_of(dag: &Dag, task: u32) -> &str {
 }
 
 /// What is pulled by a place among the pulls.
-fn pulled(given: &Given, place: usize) -> Option<&Xval> {
+fn pulled_at(given: &Given, place: usize) -> Option<&Xval> {
     match given.pulled.get(place) {
-        Some(pulled) => pulled.get(),
+        Some(pulled_at) => pulled_at.get(),
         None => None,
     }
 }
@@ -57,7 +57,12 @@ pub(crate) fn given_text(
         if place > 0 {
             text.push_str(",")?;
         }
-        push_pull(alloc, &mut text, id_of(dag, *source), pulled(given, place))?;
+        push_pull(
+            alloc,
+            &mut text,
+            id_of(dag, *source),
+            pulled_at(given, place),
+        )?;
     }
     text.push_str("}}")?;
     Ok(text)

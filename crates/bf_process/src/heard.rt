@@ -13,7 +13,7 @@ pub struct Heard {
 
 impl Heard {
     /// What is heard where nothing more is known.
-    pub(crate) fn plain(raw: Raw) -> Heard
+    pub(crate) fn without_detail(raw: Raw) -> Heard
         ensures { result.raw ≡ raw }
     {
         Heard { raw, detail: None }

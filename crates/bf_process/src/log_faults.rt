@@ -18,22 +18,22 @@ impl LogFaults {
     }
 
     /// Notes that a log can't be made.
-    pub(crate) fn note_unmade(&self) {
+    pub(crate) fn note_unmade_log(&self) {
         self.cannot_make.store(true, Ordering::SeqCst);
     }
 
     /// Notes that a log isn't whole.
-    pub(crate) fn note_lost(&self) {
+    pub(crate) fn note_incomplete_log(&self) {
         self.lost_some.store(true, Ordering::SeqCst);
     }
 
     /// Whether a log couldn't be made. Then its try was given up.
-    pub fn cannot_make(&self) -> bool {
+    pub fn has_unmade_log(&self) -> bool {
         self.cannot_make.load(Ordering::SeqCst)
     }
 
     /// Whether a log isn't whole that was made.
-    pub fn lost_some(&self) -> bool {
+    pub fn has_incomplete_log(&self) -> bool {
         self.lost_some.load(Ordering::SeqCst)
     }
 }

@@ -42,7 +42,7 @@ fn make_folder(files: &HostRuntime, path: &str) -> io::Result<()> {
 }
 
 /// Makes the folder of all logs with those that it stands in, unless it is there. It may be a link to one.
-fn make_all_folders(files: &HostRuntime, path: &str) -> io::Result<()> {
+fn make_logs_folder(files: &HostRuntime, path: &str) -> io::Result<()> {
     match fs::metadata(files, path) {
         Ok(there) if there.is_dir() => Ok(()),
         _ => fs::create_dir_all(files, path),
@@ -58,18 +58,18 @@ fn folder_of(path: &str) -> &str {
 }
 
 /// Makes the folders of a log: that of all logs, and below it those of the graph, of the run and of the task.
-fn make_folders(files: &HostRuntime, path: &str) -> io::Result<()> {
+fn make_folders_of_log(files: &HostRuntime, path: &str) -> io::Result<()> {
     let task = folder_of(path);
     let run = folder_of(task);
     let dag = folder_of(run);
-    make_all_folders(files, folder_of(dag))?;
+    make_logs_folder(files, folder_of(dag))?;
     make_folder(files, dag)?;
     make_folder(files, run)?;
     make_folder(files, task)
 }
 
 /// A new file that is written at its end.
-fn new_log(files: &HostRuntime, path: &str) -> io::Result<File> {
+fn create_log(files: &HostRuntime, path: &str) -> io::Result<File> {
     OpenOptions::new()
         .append(true)
         .create_new(true)
@@ -77,11 +77,11 @@ fn new_log(files: &HostRuntime, path: &str) -> io::Result<File> {
 }
 
 /// An empty file that is written at its end. What stands in its place is removed, so that a link there isn't followed.
-fn make_log(files: &HostRuntime, path: &str) -> io::Result<File> {
-    match new_log(files, path) {
+fn replace_log(files: &HostRuntime, path: &str) -> io::Result<File> {
+    match create_log(files, path) {
         Err(error) if error.kind() == ErrorKind::AlreadyExists => {
             fs::remove_file(files, path)?;
-            new_log(files, path)
+            create_log(files, path)
         }
         made => made,
     }
@@ -93,12 +93,12 @@ pub(crate) fn open_logs<'f>(
     logs: &TryLogs,
     faults: &'f LogFaults,
 ) -> io::Result<OpenLogs<'f>> {
-    make_folders(files, logs.out.as_str())?;
-    make_log(files, logs.given.as_str())?.write_all(logs.given_text.as_bytes())?;
-    let file = make_log(files, logs.out.as_str())?;
+    make_folders_of_log(files, logs.out.as_str())?;
+    replace_log(files, logs.given.as_str())?.write_all(logs.given_text.as_bytes())?;
+    let file = replace_log(files, logs.out.as_str())?;
     Ok(OpenLogs {
         out: OutputLog { file, faults },
-        err: make_log(files, logs.err.as_str())?,
+        err: replace_log(files, logs.err.as_str())?,
     })
 }
 

@@ -7,7 +7,7 @@ ghost use Rattle.bf_failure.specs.declared.detail.Detail.{Detail};
 ghost use Rattle.bf_process.specs.Environment.{pairs_of, said_after, variables_of};
 ghost use Rattle.bf_process.specs.Commands.{IsSaidAfter, IsSameElse};
 ghost use Rattle.bf_process.specs.Words.{variables_in};
-ghost use Rattle.bf_process.specs.Output.{IsLineOf, exit_in, not_started_of};
+ghost use Rattle.bf_process.specs.Output.{IsLineOf, exit_in, not_started_raw_of};
 
 use crate::heard::Heard;
 use crate::line::line_of;
@@ -30,8 +30,8 @@ use std::os::unix::process::ExitStatusExt;
 use std::process::{Child, Command, ExitStatus, OpenProcess, Processes, Stdio};
 
 /// The answer of what isn't started.
-pub(crate) fn not_started(alloc: Global) -> Raw
-    ensures { result ≡ not_started_of }
+pub(crate) fn not_started_raw(alloc: Global) -> Raw
+    ensures { result ≡ not_started_raw_of }
 {
     Raw {
         exit: Exit::NotStarted,
@@ -50,7 +50,7 @@ fn add_variable(command: &mut Command, name: &str, value: &str) -> Result<(), Ou
 }
 
 /// Adds those variables of a try that each has.
-fn add_variables(
+fn add_common_variables(
     alloc: Global,
     command: &mut Command,
     context: &JobContext<'_>,
@@ -78,8 +78,8 @@ fn add_environment(
         (IsSaidAfter command.old command.new (variables_in setting.now)) }
     ensures same { OnOk result (IsSameElse command.old command.new) }
 {
-    add_variables(alloc, command, setting.context, setting.clock)?;
-    match setting.given() {
+    add_common_variables(alloc, command, setting.context, setting.clock)?;
+    match setting.path_of_given() {
         Some(path) => add_variable(command, "BACKFILL_GIVEN", path),
         None => Ok(()),
     }
@@ -147,7 +147,7 @@ fn start_fault(alloc: Global, error: &io::Error) -> Option<Detail> {
     let Ok(words) = error.to_string(alloc) else {
         return None;
     };
-    match Text::copied(alloc, without_number(words.as_str())) {
+    match Text::copy_of(alloc, without_number(words.as_str())) {
         Ok(words) => Some(Detail::NotStarted(words)),
         Err(_) => None,
     }
@@ -155,7 +155,7 @@ fn start_fault(alloc: Global, error: &io::Error) -> Option<Detail> {
 
 /// The last line of what a device gives, all of which is kept in a log. What is behind the limit is read and kept too, so that the
 /// program that writes it goes on.
-fn line_kept<R: Read + Drop, W: Write + Drop>(
+fn log_and_read_line<R: Read + Drop, W: Write + Drop>(
     alloc: Global,
     device: R,
     log: W,
@@ -167,14 +167,14 @@ fn line_kept<R: Read + Drop, W: Write + Drop>(
     let line = line_of(alloc, &mut tee);
     tee.drain();
     if tee.has_failed() {
-        faults.note_lost();
+        faults.note_incomplete_log();
     }
     line
 }
 
 /// The last line that a child prints. The pipe is closed then, so that a child which goes on printing gets SIGPIPE, unless all
 /// that it prints is kept in a log.
-fn line_from<P: OpenProcess>(
+fn line_of_child<P: OpenProcess>(
     alloc: Global,
     child: &mut Child<P>,
     log: Option<OutputLog<'_>>,
@@ -188,7 +188,7 @@ fn line_from<P: OpenProcess>(
         return Ok(Line::ReadFault);
     };
     match log {
-        Some(log) => line_kept(alloc, Input::new(pipe), Output::new(log.file), log.faults),
+        Some(log) => log_and_read_line(alloc, Input::new(pipe), Output::new(log.file), log.faults),
         None => line_of(alloc, &mut Input::new(pipe)),
     }
 }
@@ -211,7 +211,7 @@ fn heard_of<P: OpenProcess>(
     ensures waited { IfErr result (λ fault.
         fault ≡ RunnerFault.OutOfMemory → IsSome (child_status child.new)) }
 {
-    let line = line_from(alloc, child, log);
+    let line = line_of_child(alloc, child, log);
     let Ok(status) = child.wait() else {
         return Err(RunnerFault::GaveUp);
     };
@@ -244,7 +244,7 @@ pub(crate) fn run_program<P: Processes>(
         Err(error) => match error.kind() {
             ErrorKind::OutOfMemory => Err(RunnerFault::OutOfMemory),
             _ => Ok(Heard {
-                raw: not_started(alloc),
+                raw: not_started_raw(alloc),
                 detail: start_fault(alloc, &error),
             }),
         },

@@ -9,7 +9,7 @@ use crate::given::given_text;
 use crate::heard::Heard;
 use crate::launching::Launching;
 use crate::log_faults::LogFaults;
-use crate::program::not_started;
+use crate::program::not_started_raw;
 use crate::setting::{Setting, TryLogs};
 use crate::starter::Starter;
 use bf_failure::{Detail, DetailedRunner, context_of};
@@ -84,7 +84,7 @@ impl<'s, 'p, 'i, 'l, S: Starter> ProcessRunner<'s, 'p, 'i, 'l, S> {
     }
 
     /// What comes of these words in a setting. Without a word nothing is started, and no launcher either.
-    fn heard(&self, words: &[String], setting: &Setting<'_, '_>) -> Result<Heard, RunnerFault>
+    fn run_words(&self, words: &[String], setting: &Setting<'_, '_>) -> Result<Heard, RunnerFault>
         ensures heard { IfOk result (λ heard. IfProgram (texts words.now) (heard.raw ≡ nothing_done)
             (S.may_hear self.now.starter (launched_in setting.now
             (behind self.now.launching.launcher (texts words.now))) heard.raw)) }
@@ -94,7 +94,7 @@ impl<'s, 'p, 'i, 'l, S: Starter> ProcessRunner<'s, 'p, 'i, 'l, S> {
             (behind self.now.launching.launcher (texts words.now))))) }
     {
         let Some((program, arguments)) = words.split_first() else {
-            return Ok(Heard::plain(Raw::with_code(0, Sequence::new(self.alloc))));
+            return Ok(Heard::without_detail(Raw::with_code(0, Sequence::new(self.alloc))));
         };
         match self.launching.launcher {
             Some(launcher) => self.starter.start(self.alloc, launcher, words, setting),
@@ -106,7 +106,7 @@ impl<'s, 'p, 'i, 'l, S: Starter> ProcessRunner<'s, 'p, 'i, 'l, S> {
     }
 
     /// The logs of a try that is given this, where they are kept.
-    fn logs(
+    fn logs_of_try(
         &self,
         task: &Task,
         context: &JobContext<'_>,
@@ -120,11 +120,11 @@ impl<'s, 'p, 'i, 'l, S: Starter> ProcessRunner<'s, 'p, 'i, 'l, S> {
             return Ok(None);
         };
         let given_text = given_text(self.alloc, self.plan.dag(), task, given)?;
-        Ok(Some(TryLogs::below(self.alloc, folder, context, given_text)?))
+        Ok(Some(TryLogs::in_folder(self.alloc, folder, context, given_text)?))
     }
 
     /// What comes of the command of a task for a try that is given this.
-    fn answer_in(
+    fn run_command(
         &self,
         task: &Task,
         run: u32,
@@ -147,18 +147,18 @@ impl<'s, 'p, 'i, 'l, S: Starter> ProcessRunner<'s, 'p, 'i, 'l, S> {
             })) }
     {
         let words = words(self.alloc, task.command.as_slice(), context, given)?;
-        let logs = self.logs(task, context, given)?;
+        let logs = self.logs_of_try(task, context, given)?;
         let setting = Setting {
             context,
             clock: clock_of_run(self.launching.clocks, run, context),
             logs: logs.as_ref(),
             log_faults: &self.log_faults,
         };
-        self.heard(words.as_slice(), &setting)
+        self.run_words(words.as_slice(), &setting)
     }
 
     /// What the try of this name answers, given this.
-    fn answer(&self, name: JobName, given: &Given) -> Result<Heard, RunnerFault>
+    fn run_try(&self, name: JobName, given: &Given) -> Result<Heard, RunnerFault>
         ensures ok { IfOk result (λ heard.
             MayAnswer (through self.now.launching (S.may_hear self.now.starter)) self.now.dag
             self.now.intervals name given.now heard.raw) }
@@ -170,9 +170,9 @@ impl<'s, 'p, 'i, 'l, S: Starter> ProcessRunner<'s, 'p, 'i, 'l, S> {
             self.plan.dag().tasks.get(name.task as usize),
             context_of(self.plan, self.runs, name),
         ) else {
-            return Ok(Heard::plain(not_started(self.alloc)));
+            return Ok(Heard::without_detail(not_started_raw(self.alloc)));
         };
-        self.answer_in(task, name.run, &context, given)
+        self.run_command(task, name.run, &context, given)
     }
 }
 
@@ -196,7 +196,7 @@ impl<'s, 'p, 'i, 'l, S: Starter> DetailedRunner for ProcessRunner<'s, 'p, 'i, 'l
         &self,
         ticket: Ticket,
     ) -> Result<(Done, Option<Detail>), (Ticket, RunnerFault)> {
-        match self.answer(ticket.name(), ticket.given()) {
+        match self.run_try(ticket.name(), ticket.given()) {
             Ok(Heard { raw, detail }) => Ok((ticket.answer(raw), detail)),
             Err(fault) => Err((ticket, fault)),
         }

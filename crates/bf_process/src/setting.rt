@@ -24,7 +24,7 @@ pub struct TryLogs {
 
 impl TryLogs {
     /// The logs of a try below a folder.
-    pub fn below(
+    pub fn in_folder(
         alloc: Global,
         folder: &str,
         context: &JobContext<'_>,
@@ -60,7 +60,7 @@ pub struct Setting<'c, 'l> {
 
 impl<'c, 'l> Setting<'c, 'l> {
     /// The path of what the try was given, where that is written.
-    pub fn given(&self) -> Option<&str>
+    pub fn path_of_given(&self) -> Option<&str>
         ensures { option_map (λ path. path.now) result
             ≡ option_map (λ logs. string_bytes logs.now.given) self.now.logs }
     {

@@ -55,7 +55,7 @@ impl Starter for HostRuntime {
             return run_program(self, alloc, program, arguments, setting, None);
         };
         let Ok(open) = open_logs(self, logs, setting.log_faults) else {
-            setting.log_faults.note_unmade();
+            setting.log_faults.note_unmade_log();
             return Err(RunnerFault::GaveUp);
         };
         let heard = run_program(self, alloc, program, arguments, setting, Some(open))?;

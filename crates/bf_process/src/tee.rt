@@ -23,7 +23,7 @@ impl<R: Read + Drop, W: Write + Drop> Tee<R, W> {
         }
     }
 
-    fn keep(&mut self, bytes: &[u8])
+    fn log_bytes(&mut self, bytes: &[u8])
         ensures { self.new.inner ≡ self.old.inner }
     {
         if !self.failed && send(&mut self.log, bytes).is_err() {
@@ -58,7 +58,7 @@ impl<R: Read + Drop, W: Write + Drop> Read for Tee<R, W> {
     fn read(&mut self, room: &mut [u8]) -> Result<usize, Halt> {
         match self.inner.read(room) {
             Ok(count) => {
-                self.keep(&room[..count]);
+                self.log_bytes(&room[..count]);
                 Ok(count)
             }
             Err(halt) => Err(halt),

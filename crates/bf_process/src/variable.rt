@@ -2,7 +2,7 @@
 ghost use Rattle.std.specs.Prelude.{◌≡◌, IfOk, string_bytes};
 ghost use Rattle.bf_process.specs.Environment.{variable_name, variable_value, variables_of};
 
-use crate::clocks::{date, digits_of_date};
+use crate::clocks::{digits_of_date, text_of_date};
 use bf_moment::Moment;
 use bf_value::OutOfMemory;
 use bf_words::JobContext;
@@ -96,7 +96,7 @@ impl Variable {
             Variable::Run | Variable::IntervalStart | Variable::AirflowExecutionDate => {
                 context.data_interval_start.to_string(alloc)?
             }
-            Variable::Date => date(alloc, clock)?,
+            Variable::Date => text_of_date(alloc, clock)?,
             Variable::DateNodash => digits_of_date(alloc, clock)?,
             Variable::IntervalEnd => context.data_interval_end.to_string(alloc)?,
             Variable::MapIndex => context.map_index.to_string(alloc)?,

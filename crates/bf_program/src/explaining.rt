@@ -7,14 +7,14 @@ ghost use Rattle.bf_input.specs.Inputs.{OfFiles};
 ghost use Rattle.bf_program.specs.Commands.{found_in};
 ghost use Rattle.bf_program.specs.Explained.{IsExplained, IsExplainedIf, IsExplanation, finding_line, findings_text};
 
-use crate::program::tell;
+use crate::program::tell_line;
 use bf_command_fault::CommandFault;
 use bf_command_line::{Asked, CheckAsked, CommandLine, GraphAsked, asked};
 use bf_device::Write;
 use bf_disk::Source;
 use bf_findings::{Finding, findings};
-use bf_input::graph_files;
-use bf_quoted::push_shown;
+use bf_input::read_graph_files;
+use bf_quoted::push_shown_value;
 use bf_value::OutOfMemory;
 use std::alloc::Global;
 
@@ -23,13 +23,13 @@ fn push_finding(alloc: Global, text: &mut String, finding: &Finding) -> Result<(
         ++ finding_line finding.now) }
 {
     let line = format!(in alloc; "{finding}")?;
-    push_shown(text, line.as_str())?;
+    push_shown_value(text, line.as_str())?;
     text.push('\n')?;
     Ok(())
 }
 
 /// A line for each finding.
-fn text_of(alloc: Global, found: &[Finding]) -> Result<String, OutOfMemory>
+fn text_of_findings(alloc: Global, found: &[Finding]) -> Result<String, OutOfMemory>
     ensures { IfOk result (λ text. string_bytes text ≡ findings_text found.now) }
 {
     let mut text = String::new(alloc);
@@ -40,7 +40,7 @@ fn text_of(alloc: Global, found: &[Finding]) -> Result<String, OutOfMemory>
 }
 
 /// What is wrong with a graph, a line for each finding.
-fn explanation<S: Source>(
+fn read_explanation<S: Source>(
     alloc: Global,
     asked: GraphAsked,
     files: &mut S,
@@ -48,9 +48,9 @@ fn explanation<S: Source>(
     ensures { IfOk result (λ text. OfFiles (S.file files.old) asked
         (λ graph zone. IsExplanation graph zone (string_bytes text))) }
 {
-    let files = graph_files(alloc, asked, files)?;
+    let files = read_graph_files(alloc, asked, files)?;
     let found = findings(alloc, &files.graph, files.zone_file())?;
-    let text = text_of(alloc, found.as_slice())?;
+    let text = text_of_findings(alloc, found.as_slice())?;
     Ok(text)
 }
 
@@ -67,12 +67,12 @@ fn tell_findings<S: Source, E: Write>(
         (E.written err.old) (E.written err.new)) }
     ensures untold { OnErr result (E.written err.new ≡ E.written err.old) }
 {
-    let text = explanation(alloc, asked, files)?;
-    tell(err, text.as_bytes());
+    let text = read_explanation(alloc, asked, files)?;
+    tell_line(err, text.as_bytes());
     Ok(())
 }
 
-fn check_explained<S: Source, E: Write>(
+fn explain_asked_check<S: Source, E: Write>(
     alloc: Global,
     asked: CheckAsked,
     files: &mut S,
@@ -93,7 +93,7 @@ fn check_explained<S: Source, E: Write>(
 }
 
 #[tactic(auto, using(crate::proofs::Unasked::unasked))]
-fn command_explained<S: Source, E: Write>(
+fn explain_command<S: Source, E: Write>(
     alloc: Global,
     command: Asked,
     files: &mut S,
@@ -106,14 +106,14 @@ fn command_explained<S: Source, E: Write>(
     ensures untold { OnErr result (E.written err.new ≡ E.written err.old) }
 {
     match command {
-        Asked::Check(check) => check_explained(alloc, check, files, err),
+        Asked::Check(check) => explain_asked_check(alloc, check, files, err),
         _ => Ok(()),
     }
 }
 
 /// Tells on standard error what is wrong with a graph, where the line asks for that: all of it, or a hundred findings. Its files are read
 /// again for this. Nothing is told where one can't be read, where memory is wanting, and of a line that is wrong.
-pub fn explain<S: Source, E: Write>(
+pub fn explain_check<S: Source, E: Write>(
     alloc: Global,
     words: &[String],
     files: &mut S,
@@ -127,7 +127,7 @@ pub fn explain<S: Source, E: Write>(
     ensures untold { OnErr result (E.written err.new ≡ E.written err.old) }
 {
     match asked(alloc, words) {
-        Ok(CommandLine { command, out: _ }) => command_explained(alloc, command, files, err),
+        Ok(CommandLine { command, out: _ }) => explain_command(alloc, command, files, err),
         Err(_) => Err(CommandFault::OutOfMemory),
     }
 }

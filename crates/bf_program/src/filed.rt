@@ -6,12 +6,12 @@ ghost use Rattle.bf_program.specs.Commands.{IsAnswer};
 ghost use Rattle.bf_program.specs.CommandFaults.{IsFaultBy};
 ghost use Rattle.bf_program.specs.Filed.{filed_fault, replacing_fault};
 
-use crate::program::command_answered;
+use crate::program::answer_command;
 use bf_command_fault::{CommandFault, Status};
 use bf_command_line::Asked;
 use bf_commands::Screen;
 use bf_disk::{Journals, Launchers, Source};
-use bf_file::{Folder, Page, ReplaceFault, give_up, replace};
+use bf_file::{Folder, Page, ReplaceFault, discard_page, replace_by_page};
 use bf_process::Starter;
 use bf_value::Text;
 use bf_views::Canvas;
@@ -21,7 +21,7 @@ use std::thread::Threads;
 use std::time::Clock;
 
 /// What is told where a path's file can't be replaced.
-fn unreplaced(fault: ReplaceFault, path: String) -> CommandFault
+fn fault_of_replacing(fault: ReplaceFault, path: String) -> CommandFault
     ensures { result ≡ replacing_fault (string_bytes path) fault }
 {
     match fault {
@@ -31,18 +31,18 @@ fn unreplaced(fault: ReplaceFault, path: String) -> CommandFault
 }
 
 /// What is told where a command's text goes to a file, and a write to that failed for this reason, if one did.
-fn told_of_file(fault: CommandFault, reason: ReplaceFault, path: String) -> CommandFault
+fn fault_at_file(fault: CommandFault, reason: ReplaceFault, path: String) -> CommandFault
     ensures { result ≡ filed_fault (string_bytes path) reason fault }
 {
     match fault {
-        CommandFault::CannotWrite(_) => unreplaced(reason, path),
+        CommandFault::CannotWrite(_) => fault_of_replacing(reason, path),
         fault => fault,
     }
 }
 
 /// Answers a command, whose text takes the place of a path's file. That this can be is looked at first, before anything is read.
 #[tactic(auto, using(crate::proofs::FiledReports::filing))]
-pub(crate) fn filed<RT, J: Journals + Launchers, S: Source, F: Folder>(
+pub(crate) fn answer_to_file<RT, J: Journals + Launchers, S: Source, F: Folder>(
     rt: &RT,
     alloc: Global,
     command: Asked,
@@ -64,19 +64,19 @@ where
         (machine_of (J.journal journals.now) (J.startable journals.now)) command) }
     ensures same { OnErr result (F.placed folder.new ≡ F.placed folder.old) }
 {
-    let new = match folder.begin(alloc, path.as_str()) {
+    let new = match folder.begin_replacement(alloc, path.as_str()) {
         Ok(new) => new,
-        Err(fault) => return Err(unreplaced(fault, path)),
+        Err(fault) => return Err(fault_of_replacing(fault, path)),
     };
-    let mut page = Page::of(new);
-    match command_answered(rt, alloc, command, canvas, files, journals, &mut page) {
-        Ok(status) => match replace(folder, page) {
+    let mut page = Page::new(new);
+    match answer_command(rt, alloc, command, canvas, files, journals, &mut page) {
+        Ok(status) => match replace_by_page(folder, page) {
             Ok(()) => Ok(status),
-            Err(fault) => Err(unreplaced(fault, path)),
+            Err(fault) => Err(fault_of_replacing(fault, path)),
         },
         Err(fault) => {
-            let reason = give_up(folder, page);
-            Err(told_of_file(fault, reason, path))
+            let reason = discard_page(folder, page);
+            Err(fault_at_file(fault, reason, path))
         }
     }
 }

@@ -11,6 +11,6 @@ mod laws;
 mod program;
 mod texts;
 
-pub use explaining::explain;
+pub use explaining::explain_check;
 pub use laws::{own_pages_have_no_digit, reports_are_printed_again};
 pub use program::answer;

@@ -11,11 +11,11 @@ ghost use Rattle.bf_program.specs.Commands.{IsAnswer, IsDone, found_in, outputs,
 ghost use Rattle.bf_program.specs.CommandFaults.{IsFault, IsTold, MayBeFaulted, MayTell, Tells};
 ghost use Rattle.bf_program.specs.Shown.{shown_as, EndsAs, IsUnshown, ShowsHelp};
 
-use crate::filed::filed;
-use crate::texts::{completions_answered, schema_answered};
+use crate::filed::answer_to_file;
+use crate::texts::{answer_completions, answer_schema};
 use bf_backfills::{
-    check_answered, clear_answered, clear_plan_answered, dry_answered, list_answered, run_answered,
-    single_answered,
+    answer_check, answer_clear, answer_clear_plan, answer_dry, answer_list, answer_run,
+    answer_single,
 };
 use bf_command_fault::{CommandFault, Status};
 use bf_command_line::{Asked, CommandLine, asked};
@@ -25,7 +25,7 @@ use bf_disk::{Journals, Launchers, Source};
 use bf_file::Folder;
 use bf_process::Starter;
 use bf_views::{
-    Canvas, answers_answered, explain_answered, json_answered, page_answered, show_answered,
+    Canvas, answer_answers, answer_explain, answer_page, answer_show, answer_show_json,
 };
 use clap::Error;
 use clap::error::ErrorKind;
@@ -93,13 +93,13 @@ where
         (E.interruptions err.old) (E.interruptions err.new))
         (E.written err.old) (E.written err.new) fault 3 }
 {
-    match line_answered(rt, alloc, words, canvas, files, journals, folder, out, err) {
+    match answer_line(rt, alloc, words, canvas, files, journals, folder, out, err) {
         Ok(status) => status.code(),
-        Err(fault) => told(alloc, &fault, err).code(),
+        Err(fault) => tell_fault(alloc, &fault, err).code(),
     }
 }
 
-fn line_answered<RT, J: Journals + Launchers, S: Source, F: Folder, W: Write, E: Write>(
+fn answer_line<RT, J: Journals + Launchers, S: Source, F: Folder, W: Write, E: Write>(
     rt: &RT,
     alloc: Global,
     words: &[String],
@@ -143,15 +143,15 @@ where
 {
     match asked(alloc, words) {
         Ok(CommandLine { command, out: file }) => match file {
-            Some(path) => filed(rt, alloc, command, path, canvas, files, journals, folder),
-            None => command_answered(rt, alloc, command, canvas, files, journals, out),
+            Some(path) => answer_to_file(rt, alloc, command, path, canvas, files, journals, folder),
+            None => answer_command(rt, alloc, command, canvas, files, journals, out),
         },
-        Err(error) => shown(alloc, &error, out, err),
+        Err(error) => show_clap_error(alloc, &error, out, err),
     }
 }
 
 /// Answers a command, whose text goes to `out`.
-pub(crate) fn command_answered<RT, J: Journals + Launchers, S: Source, W: Write>(
+pub(crate) fn answer_command<RT, J: Journals + Launchers, S: Source, W: Write>(
     rt: &RT,
     alloc: Global,
     command: Asked,
@@ -177,26 +177,26 @@ where
         (W.written out.old) (W.written out.new)) }
 {
     match command {
-        Asked::Check(check) => check_answered(alloc, check.graph, files, out),
-        Asked::List(list) => list_answered(alloc, list, files, out),
-        Asked::Single(single) => single_answered(rt, alloc, single, files, out),
-        Asked::Dry(dry) => dry_answered(rt, alloc, dry, files, out),
-        Asked::Run(ran) => run_answered(rt, alloc, ran, files, journals, out),
-        Asked::Clear(clear) => clear_answered(rt, alloc, clear, files, journals, out),
-        Asked::Keep(keep) => clear_answered(rt, alloc, keep, files, journals, out),
-        Asked::ClearPlan(plan) => clear_plan_answered(alloc, plan, files, out),
-        Asked::Show(show) => show_answered(alloc, show, canvas, files, out),
-        Asked::ShowJson(path) => json_answered(alloc, path, files, out),
-        Asked::Page(page) => page_answered(alloc, page, files, out),
-        Asked::Explain(explain) => explain_answered(alloc, explain, files, out),
-        Asked::Answers(path) => answers_answered(alloc, path, files, out),
-        Asked::Schema(format) => schema_answered(format, out),
-        Asked::Completions(shell) => completions_answered(shell, out),
+        Asked::Check(check) => answer_check(alloc, check.graph, files, out),
+        Asked::List(list) => answer_list(alloc, list, files, out),
+        Asked::Single(single) => answer_single(rt, alloc, single, files, out),
+        Asked::Dry(dry) => answer_dry(rt, alloc, dry, files, out),
+        Asked::Run(ran) => answer_run(rt, alloc, ran, files, journals, out),
+        Asked::Clear(clear) => answer_clear(rt, alloc, clear, files, journals, out),
+        Asked::Keep(keep) => answer_clear(rt, alloc, keep, files, journals, out),
+        Asked::ClearPlan(plan) => answer_clear_plan(alloc, plan, files, out),
+        Asked::Show(show) => answer_show(alloc, show, canvas, files, out),
+        Asked::ShowJson(path) => answer_show_json(alloc, path, files, out),
+        Asked::Page(page) => answer_page(alloc, page, files, out),
+        Asked::Explain(explain) => answer_explain(alloc, explain, files, out),
+        Asked::Answers(path) => answer_answers(alloc, path, files, out),
+        Asked::Schema(format) => answer_schema(format, out),
+        Asked::Completions(shell) => answer_completions(shell, out),
     }
 }
 
 /// Shows `clap`'s words: help on standard output, and what is wrong with the line on standard error.
-fn shown<W: Write, E: Write>(
+fn show_clap_error<W: Write, E: Write>(
     alloc: Global,
     error: &Error,
     out: &mut W,
@@ -231,7 +231,7 @@ fn shown<W: Write, E: Write>(
 }
 
 /// Tells on standard error why there is no answer, and gives the exit status of what was told.
-fn told<E: Write>(alloc: Global, fault: &CommandFault, err: &mut E) -> Status
+fn tell_fault<E: Write>(alloc: Global, fault: &CommandFault, err: &mut E) -> Status
     ensures tells { MayTell (HasHalted (E.failures err.old) (E.failures err.new)
         (E.interruptions err.old) (E.interruptions err.new))
         (E.written err.old) (E.written err.new) fault.now (code_of result) }
@@ -240,18 +240,18 @@ fn told<E: Write>(alloc: Global, fault: &CommandFault, err: &mut E) -> Status
 {
     match fault.line(alloc) {
         Ok(line) => {
-            tell(err, line.as_bytes());
+            tell_line(err, line.as_bytes());
             fault.status()
         }
         Err(_) => {
-            tell(err, b"fault: out of memory\n");
+            tell_line(err, b"fault: out of memory\n");
             Status::Fault
         }
     }
 }
 
 /// Writes a line to standard error. Where that fails, nothing is left to say so on.
-pub(crate) fn tell<E: Write>(err: &mut E, line: &[u8])
+pub(crate) fn tell_line<E: Write>(err: &mut E, line: &[u8])
     ensures { IsTold (HasHalted (E.failures err.old) (E.failures err.new)
         (E.interruptions err.old) (E.interruptions err.new))
         (E.written err.old) (E.written err.new) line.now }

@@ -29,7 +29,7 @@ fn completions_of(shell: Shell) -> &'static str
     }
 }
 
-fn printed<W: Write>(text: &str, out: &mut W) -> Result<Status, CommandFault>
+fn print_text<W: Write>(text: &str, out: &mut W) -> Result<Status, CommandFault>
     ensures answer { IfOk result (λ status. Sends (λ sent. IsPrinted text.now sent status)
         (W.written out.old) (W.written out.new)) }
     ensures fault { IfErr result IsDeviceFault }
@@ -43,7 +43,7 @@ fn printed<W: Write>(text: &str, out: &mut W) -> Result<Status, CommandFault>
 }
 
 /// Prints the schema of a format's files.
-pub fn schema_answered<W: Write>(format: Format, out: &mut W) -> Result<Status, CommandFault>
+pub fn answer_schema<W: Write>(format: Format, out: &mut W) -> Result<Status, CommandFault>
     ensures answer { IfOk result (λ status. Sends
         (λ text. IsPrinted (schema_text format) text status) (W.written out.old)
         (W.written out.new)) }
@@ -53,11 +53,11 @@ pub fn schema_answered<W: Write>(format: Format, out: &mut W) -> Result<Status, 
         (λ text. (status : Status) × IsPrinted (schema_text format) text status)
         (W.written out.old) (W.written out.new)) }
 {
-    printed(schema_of(format), out)
+    print_text(schema_of(format), out)
 }
 
 /// Prints what a shell completes.
-pub fn completions_answered<W: Write>(shell: Shell, out: &mut W) -> Result<Status, CommandFault>
+pub fn answer_completions<W: Write>(shell: Shell, out: &mut W) -> Result<Status, CommandFault>
     ensures answer { IfOk result (λ status. Sends
         (λ text. IsPrinted (completions_text shell) text status) (W.written out.old)
         (W.written out.new)) }
@@ -67,5 +67,5 @@ pub fn completions_answered<W: Write>(shell: Shell, out: &mut W) -> Result<Statu
         (λ text. (status : Status) × IsPrinted (completions_text shell) text status)
         (W.written out.old) (W.written out.new)) }
 {
-    printed(completions_of(shell), out)
+    print_text(completions_of(shell), out)
 }

@@ -13,7 +13,7 @@ pub(crate) struct Begun {
 }
 
 /// A try has begun.
-pub(crate) fn begin(running: &mut Vec<Begun>, begun: Begun) -> Result<(), OutOfMemory>
+pub(crate) fn push_begun(running: &mut Vec<Begun>, begun: Begun) -> Result<(), OutOfMemory>
     ensures ok { OnOk result (running.new.items ≡ running.old.items ++ begun ∷ []) }
     ensures err { OnErr result (running.new.items ≡ running.old.items) }
 {
@@ -23,7 +23,7 @@ pub(crate) fn begin(running: &mut Vec<Begun>, begun: Begun) -> Result<(), OutOfM
 }
 
 /// A try has ended.
-pub(crate) fn end(running: &mut Vec<Begun>, name: JobName)
+pub(crate) fn remove_ended(running: &mut Vec<Begun>, name: JobName)
     ensures { running.new.items ≡ filter (is_other name) running.old.items }
 {
     running.retain(

@@ -2,7 +2,7 @@
 ghost use Rattle.std.specs.Prelude.{◌≡◌, [], OnErr, OnOk, false};
 ghost use Rattle.bf_progress.specs.Due.{IsNoted, IsRunningAfter, due_of, is_line_due_in, is_minute_over_in, running_after, shown_of};
 
-use crate::begun::{Begun, begin, end};
+use crate::begun::{Begun, push_begun, remove_ended};
 use crate::counts::Counts;
 use crate::due::{Due, seconds_between};
 use bf_core::{Core, Event};
@@ -31,7 +31,7 @@ pub(crate) struct Board {
 
 impl Board {
     /// Before the first event of a backfill that begins now.
-    pub(crate) fn of(alloc: Global, counts: Counts, now: Duration) -> Board
+    pub(crate) fn new(alloc: Global, counts: Counts, now: Duration) -> Board
         ensures running { result.running.items ≡ [] }
         ensures moments { (result.shown ≡ now) × (result.changed ≡ now) × (result.minutes ≡ 0) }
         ensures shown { (result.counts ≡ counts) × (result.has_changed ≡ false) }
@@ -54,7 +54,7 @@ impl Board {
         ensures same { self.new ≡ record self.old { running = self.new.running } }
     {
         match event {
-            Event::Begin(name) => begin(
+            Event::Begin(name) => push_begun(
                 &mut self.running,
                 Begun {
                     name: *name,
@@ -62,7 +62,7 @@ impl Board {
                 },
             ),
             Event::End(name, _) => {
-                end(&mut self.running, *name);
+                remove_ended(&mut self.running, *name);
                 Ok(())
             }
             _ => Ok(()),
@@ -70,7 +70,7 @@ impl Board {
     }
 
     /// An event has come to the backfill, and so many tries run now. That its clock goes on is none that is told.
-    pub(crate) fn note(&mut self, event: &Event, core: &Core<'_>, running: u32, now: Duration)
+    pub(crate) fn note_event(&mut self, event: &Event, core: &Core<'_>, running: u32, now: Duration)
         ensures running { IsRunningAfter event.now now self.old.running.items
             self.new.running.items }
         ensures noted { IsNoted event.now running now self.old self.new }
@@ -78,7 +78,7 @@ impl Board {
         if let Event::Tick { .. } = event {
             return;
         }
-        self.counts.note(event, core);
+        self.counts.note_event(event, core);
         self.counts.running = running;
         let _ = self.note_try(event, now);
         self.has_changed = true;
@@ -113,7 +113,7 @@ impl Board {
     }
 
     /// Notes that what is due now is told.
-    pub(crate) fn show(&mut self, due: Due, now: Duration)
+    pub(crate) fn note_told(&mut self, due: Due, now: Duration)
         ensures { self.new ≡ shown_of self.old due now }
     {
         match due {

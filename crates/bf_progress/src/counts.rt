@@ -43,7 +43,7 @@ impl fmt::Display for Counts {
 
 impl Counts {
     /// Before the first event of so many runs, each of so many tasks.
-    pub(crate) fn of(runs: usize, tasks: usize) -> Counts {
+    pub(crate) fn new(runs: usize, tasks: usize) -> Counts {
         let (runs, tasks) = (runs as u64, tasks as u64);
         Counts {
             runs,
@@ -58,15 +58,15 @@ impl Counts {
     }
 
     /// A task was decided.
-    fn decide(&mut self, core: &Core<'_>, run: u32, task: u32) {
+    fn note_decision(&mut self, core: &Core<'_>, run: u32, task: u32) {
         if let Some(Cell::Ran(instances)) = core.cell(run, task) {
             self.waiting = self.waiting.saturating_add(instances.len() as u64);
         }
-        self.settle(core, run, task);
+        self.note_settled(core, run, task);
     }
 
     /// A try has ended.
-    fn end(&mut self, core: &Core<'_>, name: JobName) {
+    fn note_end(&mut self, core: &Core<'_>, name: JobName) {
         match core.instance(name) {
             Some(instance) => match instance.phase {
                 Phase::Waiting => self.waiting = self.waiting.saturating_add(1),
@@ -75,40 +75,40 @@ impl Counts {
             },
             None => {}
         }
-        self.settle(core, name.run, name.task);
+        self.note_settled(core, name.run, name.task);
     }
 
     /// Counts a task that an event has settled.
-    fn settle(&mut self, core: &Core<'_>, run: u32, task: u32) {
+    fn note_settled(&mut self, core: &Core<'_>, run: u32, task: u32) {
         if core.is_settled(run, task) {
             self.settled = self.settled.saturating_add(1);
         }
     }
 
     /// An event has come to the backfill.
-    pub(crate) fn note(&mut self, event: &Event, core: &Core<'_>) {
+    pub(crate) fn note_event(&mut self, event: &Event, core: &Core<'_>) {
         match event {
             Event::Open => self.opened = self.opened.saturating_add(1),
             Event::Close { .. } => self.closed = self.closed.saturating_add(1),
             Event::Settle { run, task } | Event::Expand { run, task } => {
-                self.decide(core, *run, *task);
+                self.note_decision(core, *run, *task);
             }
             Event::Begin(_) => self.waiting = self.waiting.saturating_sub(1),
-            Event::End(name, _) => self.end(core, *name),
+            Event::End(name, _) => self.note_end(core, *name),
             Event::Tick { .. } => {}
         }
     }
 }
 
 /// The line of the counts.
-pub(crate) fn line_of(alloc: Global, counts: &Counts) -> Result<String, OutOfMemory>
+pub(crate) fn line_of_counts(alloc: Global, counts: &Counts) -> Result<String, OutOfMemory>
     ensures { IfOk result (λ line. string_bytes line ≡ counts_line counts.now) }
 {
     Ok(format!(in alloc; "{counts}\n")?)
 }
 
 /// The line of the counts that a terminal keeps. Nothing asks how wide it is: it cuts the line itself.
-pub(crate) fn kept_line_of(alloc: Global, counts: &Counts) -> Result<String, OutOfMemory>
+pub(crate) fn terminal_line_of_counts(alloc: Global, counts: &Counts) -> Result<String, OutOfMemory>
     ensures { IfOk result (λ line. string_bytes line ≡ kept_line counts.now) }
 {
     Ok(format!(in alloc; "\u{1b}[?7l{counts}\u{1b}[?7h")?)

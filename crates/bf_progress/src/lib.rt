@@ -17,4 +17,4 @@ mod progress;
 mod screen;
 
 pub use progress::Progress;
-pub use screen::{Screen, tell};
+pub use screen::{Screen, tell_line};

@@ -2,10 +2,10 @@
 
 use crate::begun::Begun;
 use crate::board::Board;
-use crate::counts::{Counts, kept_line_of, line_of};
+use crate::counts::{Counts, line_of_counts, terminal_line_of_counts};
 use crate::due::{Due, seconds_between};
 use crate::longest::longest_line;
-use crate::screen::{Screen, tell};
+use crate::screen::{Screen, tell_line};
 use bf_core::{Core, Event};
 use bf_failure::context_of;
 use bf_interval::Runs;
@@ -35,15 +35,15 @@ pub struct Progress<'a, RT> {
 
 impl<'a, RT: Screen + Wait + Clock> Progress<'a, RT> {
     /// Before the first event of these runs of a plan.
-    pub fn of(rt: &'a RT, alloc: Global, plan: &'a Plan, runs: &'a Runs) -> Progress<'a, RT> {
-        let counts = Counts::of(runs.count(), plan.dag().tasks.len());
+    pub fn new(rt: &'a RT, alloc: Global, plan: &'a Plan, runs: &'a Runs) -> Progress<'a, RT> {
+        let counts = Counts::new(runs.count(), plan.dag().tasks.len());
         let now = rt.monotonic().unwrap_or(Duration::ZERO);
         Progress {
             rt,
             alloc,
             plan,
             runs,
-            board: Mutex::new(Board::of(alloc, counts, now)),
+            board: Mutex::new(Board::new(alloc, counts, now)),
             has_ended: AtomicBool::new(false),
             bell: Parker::new(),
         }
@@ -55,14 +55,14 @@ impl<'a, RT: Screen + Wait + Clock> Progress<'a, RT> {
     }
 
     /// Notes that an event has come to the backfill, and that so many tries run now.
-    pub fn note(&self, event: &Event, core: &Core<'_>, running: u32) {
+    pub fn note_event(&self, event: &Event, core: &Core<'_>, running: u32) {
         let now = self.now();
         let mut board = self.board.lock(self.rt);
-        board.note(event, core, running, now);
+        board.note_event(event, core, running, now);
     }
 
     /// Tells once a second what is due, until the backfill has ended.
-    pub fn keep_up(&self) {
+    pub fn tell_until_ended(&self) {
         for _ in self.rt.forever() {
             self.bell.park_timeout(self.rt, Duration::from_secs(PAUSE));
             if self.has_ended.load(Ordering::SeqCst) {
@@ -73,7 +73,7 @@ impl<'a, RT: Screen + Wait + Clock> Progress<'a, RT> {
     }
 
     /// The backfill has ended, or was stopped: nothing more is due.
-    pub fn end(&self) {
+    pub fn stop_telling(&self) {
         self.has_ended.store(true, Ordering::SeqCst);
         self.bell.unpark();
     }
@@ -85,7 +85,7 @@ impl<'a, RT: Screen + Wait + Clock> Progress<'a, RT> {
             running: 0,
             ..self.counts()
         };
-        self.show(line_of(self.alloc, &counts));
+        self.show(line_of_counts(self.alloc, &counts));
     }
 
     fn counts(&self) -> Counts {
@@ -94,10 +94,10 @@ impl<'a, RT: Screen + Wait + Clock> Progress<'a, RT> {
     }
 
     /// What is due at this moment, which is noted as told, and how far the backfill is.
-    fn taken(&self, now: Duration, keeps_line: bool) -> (Due, Counts) {
+    fn take_due(&self, now: Duration, keeps_line: bool) -> (Due, Counts) {
         let mut board = self.board.lock(self.rt);
         let due = board.due(now, keeps_line);
-        board.show(due, now);
+        board.note_told(due, now);
         (due, board.counts)
     }
 
@@ -105,10 +105,12 @@ impl<'a, RT: Screen + Wait + Clock> Progress<'a, RT> {
     fn tell_due(&self) {
         let now = self.now();
         let keeps_line = self.rt.is_terminal();
-        match self.taken(now, keeps_line) {
+        match self.take_due(now, keeps_line) {
             (Due::Nothing, _) => {}
-            (Due::Counts, counts) if keeps_line => self.show(kept_line_of(self.alloc, &counts)),
-            (Due::Counts, counts) => self.show(line_of(self.alloc, &counts)),
+            (Due::Counts, counts) if keeps_line => self.show(terminal_line_of_counts(
+                self.alloc, &counts,
+            )),
+            (Due::Counts, counts) => self.show(line_of_counts(self.alloc, &counts)),
             (Due::Longest(begun), _) => self.tell_longest(&begun, now),
         }
     }
@@ -116,7 +118,7 @@ impl<'a, RT: Screen + Wait + Clock> Progress<'a, RT> {
     /// Tells a line. Where memory was wanting for it, nothing is told.
     fn show(&self, line: Result<String, OutOfMemory>) {
         if let Ok(line) = line {
-            tell(self.rt, self.alloc, line.as_str());
+            tell_line(self.rt, self.alloc, line.as_str());
         }
     }
 

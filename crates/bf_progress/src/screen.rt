@@ -40,7 +40,7 @@ fn line_on(alloc: Global, is_terminal: bool, line: &str) -> Result<String, OutOf
 
 /// Tells a line by one write, on a terminal in the place of the line of progress that may stand there. Where memory is wanting for
 /// it, nothing is told.
-pub fn tell<RT: Screen>(rt: &RT, alloc: Global, line: &str) {
+pub fn tell_line<RT: Screen>(rt: &RT, alloc: Global, line: &str) {
     if let Ok(text) = line_on(alloc, rt.is_terminal(), line) {
         rt.show(text.as_str());
     }

@@ -6,7 +6,7 @@ use Rattle.std.proofs.lemmas.List.Elements.{All-nil, All-cons, All-same, All-wea
 use Rattle.std.proofs.lemmas.Str.{encode_ascii}
 use lib.Utf8.{encode}
 use Rattle.bf_quoted.specs.Seen.{is_unseen_in}
-use Rattle.bf_quoted.specs.Words.{is_bare_in}
+use Rattle.bf_quoted.specs.Words.{is_bare_byte_in}
 
 two : (P : ℕ → Type 0) (a b : ℕ) → P a → P b → All P (a ∷ b ∷ [])
 two P a b p q = All-cons P a (b ∷ []) p (All-cons P b [] q (All-nil P))
@@ -70,18 +70,18 @@ ascii_seen = refl
 pub seen_ascii : (c : ℕ) → 32 ≤ c → c < 127 → is_unseen_in c ≡ false
 seen_ascii c low high = let e = agree_below_at is_unseen_in (λ c. ltb c 32) 127 c ascii_seen high in subst (λ b. is_unseen_in c ≡ b) (le-ltb c 32 low) e
 
-bare_visible : agree_below (λ b. is_bare_in b && ltb b 43) (λ _. false) 128 ≡ true
+bare_visible : agree_below (λ b. is_bare_byte_in b && ltb b 43) (λ _. false) 128 ≡ true
 bare_visible = refl
 
 -- a bare byte is one of ASCII, and is seen
-pub bare_small : (b : ℕ) → is_bare_in b ≡ true → (43 ≤ b) × (b < 127)
+pub bare_small : (b : ℕ) → is_bare_byte_in b ≡ true → (43 ≤ b) × (b < 127)
 bare_small b bare =
     let below : b < 127 = ⊎_elim (λ small. small)
-    (λ large. absurd (both_ways (is_bare_in b)
+    (λ large. absurd (both_ways (is_bare_byte_in b)
     (or_from _ _ (or_from _ _ (or_from _ _ (above 48 57 b (omega arith)) (above 65 90 b (omega arith))) (above 97 122 b (omega arith)))
     (or_from _ _ (ne_eqb 95 b (omega arith)) (or_from _ _ (ne_eqb 64 b (omega arith)) (or_from _ _ (ne_eqb 43 b (omega arith)) (or_from _ _ (ne_eqb 58 b (omega arith))
     (or_from _ _ (ne_eqb 44 b (omega arith)) (or_from _ _ (ne_eqb 46 b (omega arith)) (or_from _ _ (ne_eqb 47 b (omega arith)) (or_from _ _ (ne_eqb 45 b (omega arith)) refl)))))))))
     bare)) (cases_lt b 127) in
-    let none = agree_below_at (λ b. is_bare_in b && ltb b 43) (λ _. false) 128 b bare_visible (omega arith) in
-    let from : 43 ≤ b = ⊎_elim (λ low. absurd (both_ways (is_bare_in b && ltb b 43) none (and_from _ _ bare (lt-ltb b 43 low)))) (λ high. high) (cases_lt b 43) in
+    let none = agree_below_at (λ b. is_bare_byte_in b && ltb b 43) (λ _. false) 128 b bare_visible (omega arith) in
+    let from : 43 ≤ b = ⊎_elim (λ low. absurd (both_ways (is_bare_byte_in b && ltb b 43) none (and_from _ _ bare (lt-ltb b 43 low)))) (λ high. high) (cases_lt b 43) in
     (from, below)

@@ -8,7 +8,7 @@ use Rattle.std.proofs.lemmas.List.Sums.{fold-append}
 use Rattle.std.proofs.lemmas.Str.{encode_ascii, encodes-chars}
 use lib.Utf8.{encode, encodes}
 use Rattle.bf_quoted.specs.Seen.{is_unseen_in}
-use Rattle.bf_quoted.specs.Words.{is_bare_in, is_bare_word_in, quoted_char, octal, escaped_char, quoted}
+use Rattle.bf_quoted.specs.Words.{is_bare_byte_in, is_bare_word_in, quoted_char, octal, escaped_char, quoted}
 use Rattle.bf_quoted.specs.Shell.{Reading, bare, in_quotes, in_dollar_quotes, in_escape, behind_digit, behind_digits, is_octal, reads_on, read_by_shell}
 use Rattle.bf_quoted.proofs.CharFacts.{IsByte, small_bytes, other_bytes, unseen_small, bare_small}
 
@@ -27,7 +27,7 @@ each_char at f step (c ∷ cs) word =
 -- ---- bare
 
 abbrev Bare : ℕ → Type 0
-Bare b = is_bare_in b ≡ true
+Bare b = is_bare_byte_in b ≡ true
 
 bare_step : (word : List ℕ) (b : ℕ) → Bare b → reads_on (bare word) b ≡ bare (word ++ b ∷ [])
 bare_step word b e =
@@ -35,10 +35,10 @@ bare_step word b e =
     let not_backslash : b ≢ 92 = λ is. false≢true (subst Bare is e) in
     cond-false _ _ _ (ne_eqb b 39 (omega arith)) ∙ cond-false _ _ _ (ne_eqb b 92 not_backslash) ∙ cond-false _ _ _ (ne_eqb b 36 (omega arith)) ∙ cond-true _ _ _ e
 
-bare_read : (bs word : List ℕ) → list_all is_bare_in bs ≡ true → fold reads_on (bare word) bs ≡ bare (word ++ bs)
+bare_read : (bs word : List ℕ) → list_all is_bare_byte_in bs ≡ true → fold reads_on (bare word) bs ≡ bare (word ++ bs)
 bare_read [] word e = ap bare (sym (append-nil word))
 bare_read (b ∷ bs) word e =
-    let (this, others) = and_parts (is_bare_in b) (list_all is_bare_in bs) e in
+    let (this, others) = and_parts (is_bare_byte_in b) (list_all is_bare_byte_in bs) e in
     ap (λ r. fold reads_on r bs) (bare_step word b this) ∙ bare_read bs (word ++ b ∷ []) others ∙ ap bare (append_assoc word (b ∷ []) bs)
 
 -- ---- in `'..'`

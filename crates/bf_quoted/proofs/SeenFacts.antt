@@ -8,7 +8,7 @@ use Rattle.std.proofs.lemmas.List.Elements.{All-head, All-tail}
 use Rattle.std.proofs.lemmas.Str.{encode_ascii, NoCharPasses-nil, NoCharPasses-append}
 use lib.Utf8.{encode}
 use Rattle.bf_quoted.specs.Seen.{is_unseen_in}
-use Rattle.bf_quoted.specs.Words.{is_bare_in, is_bare_word_in, quoted_char, octal, escaped_char, quoted}
+use Rattle.bf_quoted.specs.Words.{is_bare_byte_in, is_bare_word_in, quoted_char, octal, escaped_char, quoted}
 use Rattle.bf_quoted.specs.Values.{shown_char, shown}
 use Rattle.bf_quoted.proofs.CharFacts.{IsByte, small_bytes, unseen_small, seen_ascii, bare_small}
 
@@ -29,10 +29,10 @@ seen_nil = NoCharPasses-nil is_unseen_in
 seen_mark : AllSeen (codes "'")
 seen_mark = seen_cons 39 [] (omega arith) (omega arith) seen_nil
 
-seen_bare : (bs : List ℕ) → list_all is_bare_in bs ≡ true → AllSeen bs
+seen_bare : (bs : List ℕ) → list_all is_bare_byte_in bs ≡ true → AllSeen bs
 seen_bare [] e = seen_nil
 seen_bare (b ∷ bs) e =
-    let (this, others) = and_parts (is_bare_in b) (list_all is_bare_in bs) e in
+    let (this, others) = and_parts (is_bare_byte_in b) (list_all is_bare_byte_in bs) e in
     let (low, high) = bare_small b this in
     seen_cons b bs (omega arith) high (seen_bare bs others)
 

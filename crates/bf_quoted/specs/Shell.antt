@@ -1,7 +1,7 @@
 -- What a shell reads of a word: bash, zsh, ksh and POSIX.1-2024, as far as bare bytes, `\`, `'..'` and `$'..'` go.
 use Rattle.std.specs.Prelude.{ℕ, ◌+◌, ◌-◌, ◌*◌, ◌==◌, ◌||◌, Bool, if◌then◌else◌, List, [], ◌∷◌, ◌++◌, fold}
 use Rattle.std.specs.Int.{is_in_range}
-use Rattle.bf_quoted.specs.Words.{is_bare_in}
+use Rattle.bf_quoted.specs.Words.{is_bare_byte_in}
 
 -- where a shell is in a word, and what it has read so far
 pub data Reading : Type 0 where
@@ -24,7 +24,7 @@ reads_on (bare word) b =
     if b == 39 then in_quotes word
     else (if b == 92 then behind_backslash word
     else (if b == 36 then behind_dollar word
-    else (if is_bare_in b then bare (word ++ b ∷ []) else not_read)))
+    else (if is_bare_byte_in b then bare (word ++ b ∷ []) else not_read)))
 reads_on (behind_backslash word) b = bare (word ++ b ∷ [])
 reads_on (behind_dollar word) b = if b == 39 then in_dollar_quotes word else not_read
 reads_on (in_quotes word) b = if b == 39 then bare word else in_quotes (word ++ b ∷ [])

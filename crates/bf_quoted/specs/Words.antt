@@ -6,8 +6,8 @@ use Rattle.std.specs.Str.{bytes_eq, chars}
 use Rattle.bf_quoted.specs.Seen.{is_unseen_in}
 
 -- a letter, a digit, or one of these
-abbrev pub is_bare_in : ℕ → Bool
-is_bare_in b = is_ascii_alphanumeric b || list_any (λ c. c == b) (codes "_@+:,./-")
+abbrev pub is_bare_byte_in : ℕ → Bool
+is_bare_byte_in b = is_ascii_alphanumeric b || list_any (λ c. c == b) (codes "_@+:,./-")
 
 -- words that a shell doesn't take for the name of a program
 abbrev pub reserved_words : List (List ℕ)
@@ -21,7 +21,7 @@ reserved_words =
 -- the word stands as it is
 abbrev pub is_bare_word_in : List ℕ → Bool
 is_bare_word_in word =
-    nat_le 1 (length word) && list_all is_bare_in word
+    nat_le 1 (length word) && list_all is_bare_byte_in word
     && not (list_any (λ reserved. bytes_eq reserved word) reserved_words)
 
 -- a character in `'..'`, where a `'` ends the quotes, and begins others behind it

@@ -15,5 +15,5 @@ pub use laws::{
     all_of_a_word_is_seen,
 };
 pub use line::push_line;
-pub use value::push_shown;
+pub use value::push_shown_value;
 pub use word::push_quoted;

@@ -44,7 +44,7 @@ fn push_shown_char(text: &mut String, c: char) -> Result<(), OutOfMemory>
 }
 
 /// Adds the compact JSON text of a value, with what a terminal doesn't show as itself by its escapes.
-pub fn push_shown(text: &mut String, json: &str) -> Result<(), OutOfMemory>
+pub fn push_shown_value(text: &mut String, json: &str) -> Result<(), OutOfMemory>
     ensures { OnOk result (string_bytes text.new ≡ string_bytes text.old ++ shown json.now) }
 {
     for c in json.chars() {

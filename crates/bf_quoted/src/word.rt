@@ -2,7 +2,7 @@
 ghost use Rattle.std.specs.Prelude.{◌≡◌, ◌++◌, OnOk, IfOk, string_bytes, encode_utf8};
 ghost use Rattle.std.specs.List.{flat_map, list_all, list_any};
 ghost use Rattle.std.specs.Str.{bytes_eq, chars};
-ghost use Rattle.bf_quoted.specs.Words.{is_bare_in, is_bare_word_in, reserved_words, octal, quoted_char, escaped_char, quoted};
+ghost use Rattle.bf_quoted.specs.Words.{is_bare_byte_in, is_bare_word_in, reserved_words, octal, quoted_char, escaped_char, quoted};
 
 use crate::seen::{has_unseen, is_unseen};
 use bf_value::OutOfMemory;
@@ -14,16 +14,16 @@ const RESERVED: [&str; 17] = [
     "select", "then", "time", "until", "while",
 ];
 
-fn is_bare(byte: u8) -> bool
-    ensures { result ≡ is_bare_in byte }
+fn is_bare_byte(byte: u8) -> bool
+    ensures { result ≡ is_bare_byte_in byte }
 {
     byte.is_ascii_alphanumeric() || b"_@+:,./-".contains(&byte)
 }
 
-fn are_bare(bytes: &[u8]) -> bool
-    ensures { result ≡ list_all is_bare_in bytes.now }
+fn are_bare_bytes(bytes: &[u8]) -> bool
+    ensures { result ≡ list_all is_bare_byte_in bytes.now }
 {
-    bytes.iter().all(|byte| is_bare(*byte))
+    bytes.iter().all(|byte| is_bare_byte(*byte))
 }
 
 fn is_among(word: &str, words: &[&str]) -> bool
@@ -41,7 +41,7 @@ fn is_reserved(word: &str) -> bool
 fn is_bare_word(word: &str) -> bool
     ensures { result ≡ is_bare_word_in word.now }
 {
-    1 <= word.len() && are_bare(word.as_bytes()) && !is_reserved(word)
+    1 <= word.len() && are_bare_bytes(word.as_bytes()) && !is_reserved(word)
 }
 
 /// Adds a character of a word that stands in `'..'`.
@@ -88,7 +88,7 @@ fn push_octals(text: &mut String, bytes: &[u8]) -> Result<(), OutOfMemory>
 }
 
 /// The character alone.
-fn alone(alloc: Global, c: char) -> Result<String, OutOfMemory>
+fn text_of_char(alloc: Global, c: char) -> Result<String, OutOfMemory>
     ensures { IfOk result (λ text. string_bytes text ≡ encode_utf8 c) }
 {
     let mut text = String::new(alloc);
@@ -101,7 +101,7 @@ fn push_escaped_char(alloc: Global, text: &mut String, c: char) -> Result<(), Ou
     ensures { OnOk result (string_bytes text.new ≡ string_bytes text.old ++ escaped_char c) }
 {
     if is_unseen(c) {
-        return push_octals(text, alone(alloc, c)?.as_bytes());
+        return push_octals(text, text_of_char(alloc, c)?.as_bytes());
     }
     if c == '\'' || c == '\\' {
         text.push_str("\\")?;

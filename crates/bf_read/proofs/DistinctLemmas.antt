@@ -7,7 +7,7 @@ use Rattle.std.proofs.lemmas.List.Elements.{filter_agree, filter_passes}
 use Rattle.std.proofs.lemmas.List.Kept.{AllPairs-cons, AllPairs-filter}
 use Rattle.std.proofs.lemmas.List.Folds.{list_any-append}
 use Rattle.bf_value.specs.Distinct.{AreDistinct}
-use Rattle.bf_read.specs.Drafts.{distinct_of}
+use Rattle.bf_read.specs.Drafts.{distinct_texts_of}
 
 -- a text that is none of these
 abbrev pub is_new : List (List ℕ) → List ℕ → Bool
@@ -60,41 +60,41 @@ old_needless found s t e = go (bytes_eq s t) refl
 
 -- these texts, and those after them that are new
 abbrev pub with_new : List (List ℕ) → List (List ℕ) → List (List ℕ)
-with_new found ss = found ++ filter (is_new found) (distinct_of ss)
+with_new found ss = found ++ filter (is_new found) (distinct_texts_of ss)
 
 pub new_found : (found ss : List (List ℕ)) (s : List ℕ) → list_any (bytes_eq s) found ≡ false → with_new (found ++ s ∷ []) ss ≡ with_new found (s ∷ ss)
-unfolding distinct_of
+unfolding distinct_texts_of
 new_found found ss s e =
-    append_assoc found (s ∷ []) (filter (is_new (found ++ s ∷ [])) (distinct_of ss))
-    ∙ ap (λ ts. found ++ s ∷ ts) (filter_agree (is_new (found ++ s ∷ [])) (λ t. is_new found t && not (bytes_eq s t)) (new_after found s) (distinct_of ss) ∙ sym (filter_filter (is_new found) (λ t. not (bytes_eq s t)) (distinct_of ss)))
+    append_assoc found (s ∷ []) (filter (is_new (found ++ s ∷ [])) (distinct_texts_of ss))
+    ∙ ap (λ ts. found ++ s ∷ ts) (filter_agree (is_new (found ++ s ∷ [])) (λ t. is_new found t && not (bytes_eq s t)) (new_after found s) (distinct_texts_of ss) ∙ sym (filter_filter (is_new found) (λ t. not (bytes_eq s t)) (distinct_texts_of ss)))
     ∙ ap (λ ts. found ++ ts) (sym (rw e refl))
 
 pub old_found : (found ss : List (List ℕ)) (s : List ℕ) → list_any (bytes_eq s) found ≡ true → with_new found ss ≡ with_new found (s ∷ ss)
-unfolding distinct_of
+unfolding distinct_texts_of
 old_found found ss s e =
     ap (λ ts. found ++ ts) (sym (
-    rw e (filter_filter (is_new found) (λ t. not (bytes_eq s t)) (distinct_of ss)
-    ∙ filter_agree (λ t. is_new found t && not (bytes_eq s t)) (is_new found) (λ t. old_needless found s t e) (distinct_of ss))))
+    rw e (filter_filter (is_new found) (λ t. not (bytes_eq s t)) (distinct_texts_of ss)
+    ∙ filter_agree (λ t. is_new found t && not (bytes_eq s t)) (is_new found) (λ t. old_needless found s t e) (distinct_texts_of ss))))
 
-pub none_found : (ss : List (List ℕ)) → with_new [] ss ≡ distinct_of ss
-none_found ss = all (distinct_of ss)
+pub none_found : (ss : List (List ℕ)) → with_new [] ss ≡ distinct_texts_of ss
+none_found ss = all (distinct_texts_of ss)
   where
     all : (ts : List (List ℕ)) → filter (is_new []) ts ≡ ts
     all [] = refl
     all (t ∷ ts) = ap (λ us. t ∷ us) (all ts)
 
 pub all_found : (found : List (List ℕ)) → with_new found [] ≡ found
-unfolding distinct_of
+unfolding distinct_texts_of
 all_found found = append-nil found
 
 -- no text stands twice among the distinct ones
-pub distinct_AreDistinct : (ss : List (List ℕ)) → AreDistinct (distinct_of ss)
-unfolding distinct_of
+pub distinct_AreDistinct : (ss : List (List ℕ)) → AreDistinct (distinct_texts_of ss)
+unfolding distinct_texts_of
 distinct_AreDistinct [] = λ i j d lt within. absurd (omega (arith, within))
-distinct_AreDistinct (s ∷ ss) = AllPairs-cons (λ a b. a ≢ b) s (filter (λ t. not (bytes_eq s t)) (distinct_of ss)) others (AllPairs-filter (λ a b. a ≢ b) (λ t. not (bytes_eq s t)) (distinct_of ss) (distinct_AreDistinct ss))
+distinct_AreDistinct (s ∷ ss) = AllPairs-cons (λ a b. a ≢ b) s (filter (λ t. not (bytes_eq s t)) (distinct_texts_of ss)) others (AllPairs-filter (λ a b. a ≢ b) (λ t. not (bytes_eq s t)) (distinct_texts_of ss) (distinct_AreDistinct ss))
   where
-    others : All (λ t. s ≢ t) (filter (λ t. not (bytes_eq s t)) (distinct_of ss))
-    others k d within same = true≢false (sym (filter_passes (λ t. not (bytes_eq s t)) (distinct_of ss) k d within) ∙ ap not ((bytes_decides s _).1 same))
+    others : All (λ t. s ≢ t) (filter (λ t. not (bytes_eq s t)) (distinct_texts_of ss))
+    others k d within same = true≢false (sym (filter_passes (λ t. not (bytes_eq s t)) (distinct_texts_of ss) k d within) ∙ ap not ((bytes_decides s _).1 same))
 
 -- ---- a text at a time
 

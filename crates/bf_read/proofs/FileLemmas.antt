@@ -6,11 +6,11 @@ use Rattle.serde_json.specs.Data.{Data}
 use Rattle.serde_json.specs.Read.{read}
 use Rattle.bf_read.specs.declared.fault.ReadFault.{ReadFault}
 use Rattle.bf_read.specs.Limits.{most_bytes}
-use Rattle.bf_read.specs.Fields.{limit_of}
+use Rattle.bf_read.specs.Fields.{refuse_beyond_limit_of}
 use Rattle.bf_read.specs.Reading.{data_in, draft_in, graph_in, graph_of}
 
 pub short_file : (bytes : List ℕ) → nat_le (length bytes) most_bytes ≡ true → graph_in bytes ≡ graph_of (data_in bytes)
-unfolding graph_in limit_of
+unfolding graph_in refuse_beyond_limit_of
 short_file bytes short = rw short refl
 
 pub json_file : (bytes : List ℕ) (d : Data) → nat_le (length bytes) most_bytes ≡ true → IsUtf8 bytes → read bytes ≡ Some d → graph_in bytes ≡ draft_in d

@@ -16,7 +16,7 @@ use Rattle.bf_read.specs.Limits.{most_tasks, most_edges}
 use Rattle.bf_read.specs.declared.path.Path.{Path}
 use Rattle.bf_read.specs.Gives.{◌>>=◌}
 use Rattle.bf_read.specs.Drafts.{number_of_edges, HaveDistinctIds, IsTask, MayFollow}
-use Rattle.bf_read.specs.Fields.{limit_of}
+use Rattle.bf_read.specs.Fields.{refuse_beyond_limit_of}
 use Rattle.bf_read.specs.Reading.{task_in, tasks_from}
 use Rattle.bf_read.proofs.FieldLemmas.{rest_from}
 
@@ -26,8 +26,8 @@ items_len_items_view : (vs : List Value) → items_len (items_view vs) ≡ lengt
 items_len_items_view [] = refl
 items_len_items_view (v ∷ vs) = ap suc (items_len_items_view vs)
 
-pub tasks_count : (p : Path) (vs : List Value) → limit_of p (nat_le (items_len (items_view vs)) most_tasks) ≡ limit_of p (nat_le (length vs) most_tasks)
-tasks_count p vs = ap (λ n. limit_of p (nat_le n most_tasks)) (items_len_items_view vs)
+pub tasks_count : (p : Path) (vs : List Value) → refuse_beyond_limit_of p (nat_le (items_len (items_view vs)) most_tasks) ≡ refuse_beyond_limit_of p (nat_le (length vs) most_tasks)
+tasks_count p vs = ap (λ n. refuse_beyond_limit_of p (nat_le n most_tasks)) (items_len_items_view vs)
 
 -- ---- the walk
 

@@ -12,19 +12,19 @@ use Rattle.bf_read.specs.declared.fault.ReadFault.{ReadFault}
 use Rattle.bf_read.specs.declared.fault.ReadFault.TheVariants.{Shape}
 use Rattle.bf_read.specs.Drafts.{pulled_in}
 use Rattle.bf_read.specs.Gives.{◌>>=◌}
-use Rattle.bf_read.specs.Fields.{Member, or_shape, if_there, there_in, text_of, flag_in, limit_of, items_in, each_item}
+use Rattle.bf_read.specs.Fields.{Member, or_shape, if_there, field_with_value_in, text_of, flag_in, refuse_beyond_limit_of, items_in, each_item}
 use Rattle.bf_plan.specs.Kinds.{context_named}
 
 -- ---- words
 
-abbrev pub only_in : Members → Option (List ℕ × Data)
-only_in no_members = None
-only_in (member key d no_members) = Some (key, d)
-only_in (member key d (member other e ms)) = None
+abbrev pub only_entry_in : Members → Option (List ℕ × Data)
+only_entry_in no_members = None
+only_entry_in (member key d no_members) = Some (key, d)
+only_entry_in (member key d (member other e ms)) = None
 
 -- the member of an object with exactly one key
 unfoldable pub only_member_in : Path → Data → Result (List ℕ × Data) ReadFault
-only_member_in p d = or_shape p (option_and_then only_in (as_object d))
+only_member_in p d = or_shape p (option_and_then only_entry_in (as_object d))
 
 unfoldable pub context_word_of : Member → Result WordDraft ReadFault
 context_word_of m = do
@@ -56,25 +56,25 @@ or_word None word = word
 -- a text, or an object with exactly one key
 unfoldable pub word_in : Bool → Path → Data → Result WordDraft ReadFault
 word_in is_expanded p d =
-    or_word (as_str d) (only_member_in p d >>= λ m. keyed_word_of is_expanded m.0 (there_in p m.1))
+    or_word (as_str d) (only_member_in p d >>= λ m. keyed_word_of is_expanded m.0 (field_with_value_in p m.1))
 
 abbrev pub words_of : Bool → Path → Items → Result (List WordDraft) ReadFault
 words_of is_expanded p = each_item (word_in is_expanded p)
 
 -- ---- commands
 
-abbrev pub is_short_in : WordDraft → Bool
-is_short_in (Text s) = nat_le (length s) longest_word
-is_short_in (Pull id) = nat_le (length id) longest_word
-is_short_in (Context variable) = true
-is_short_in Item = true
+abbrev pub is_short_word_in : WordDraft → Bool
+is_short_word_in (Text s) = nat_le (length s) longest_word
+is_short_word_in (Pull id) = nat_le (length id) longest_word
+is_short_word_in (Context variable) = true
+is_short_word_in Item = true
 
 -- the words of a command; none where the key is missing
 unfoldable pub command_in : Bool → Member → Result (List WordDraft) ReadFault
 command_in is_expanded m = if_there m.value [] (do
   ds ← items_in m
   words ← words_of is_expanded m.path ds
-  _ ← limit_of m.path (nat_le (length words) most_words)
-  _ ← limit_of m.path (list_all is_short_in words)
-  _ ← limit_of m.path (nat_le (length (pulled_in words)) most_pulls)
+  _ ← refuse_beyond_limit_of m.path (nat_le (length words) most_words)
+  _ ← refuse_beyond_limit_of m.path (list_all is_short_word_in words)
+  _ ← refuse_beyond_limit_of m.path (nat_le (length (pulled_in words)) most_pulls)
   Ok words)

@@ -14,9 +14,9 @@ use Rattle.bf_read.specs.declared.draft.WordDraft.{WordDraft}
 use Rattle.bf_read.specs.declared.draft.WordDraft.TheVariants.{Pull}
 
 -- each text once, in order of first use
-unfoldable pub distinct_of : List (List ℕ) → List (List ℕ)
-distinct_of [] = []
-distinct_of (s ∷ ss) = s ∷ filter (λ t. not (bytes_eq s t)) (distinct_of ss)
+unfoldable pub distinct_texts_of : List (List ℕ) → List (List ℕ)
+distinct_texts_of [] = []
+distinct_texts_of (s ∷ ss) = s ∷ filter (λ t. not (bytes_eq s t)) (distinct_texts_of ss)
 
 abbrev pub pulled_by : WordDraft → Option (List ℕ)
 pulled_by (Pull id) = Some id
@@ -24,7 +24,7 @@ pulled_by _ = None
 
 -- the distinct ids that the words of a command pull from, in order of first use
 abbrev pub pulled_in : List WordDraft → List (List ℕ)
-pulled_in words = distinct_of (filter_map pulled_by words)
+pulled_in words = distinct_texts_of (filter_map pulled_by words)
 
 -- how many upstreams the tasks have
 abbrev pub number_of_edges : List TaskDraft → ℕ

@@ -16,7 +16,7 @@ use Rattle.bf_read.specs.declared.fault.ReadFault.{ReadFault}
 use Rattle.bf_read.specs.declared.fault.ReadFault.TheVariants.{Shape, BadName, LimitPassed}
 use Rattle.bf_read.specs.declared.fields.Field.{Field}
 use Rattle.bf_read.specs.declared.fields.ObjectKind.{ObjectKind}
-use Rattle.bf_read.specs.Drafts.{distinct_of}
+use Rattle.bf_read.specs.Drafts.{distinct_texts_of}
 use Rattle.bf_read.specs.Gives.{◌>>=◌}
 use Rattle.bf_read.specs.Keys.{graph_key_name, task_key_name, is_graph_key_in, is_task_key_in}
 
@@ -50,8 +50,8 @@ if_there None default read = Ok default
 if_there (Some d) default read = read
 
 -- a value that is there
-abbrev pub there_in : Path → Data → Member
-there_in p d = record { path = p; value = Some d }
+abbrev pub field_with_value_in : Path → Data → Member
+field_with_value_in p d = record { path = p; value = Some d }
 
 -- ---- objects and their keys
 
@@ -67,8 +67,8 @@ abbrev pub known : ObjectKind → Path → Members → Result (Unit {0}) ReadFau
 known kind p ms = if has_known_keys_in kind ms then Ok tt else Err (Shape p)
 
 -- an object without an unknown key
-unfoldable pub object_in : ObjectKind → Path → Data → Result (Unit {0}) ReadFault
-object_in kind p d = do
+unfoldable pub refuse_other_object_in : ObjectKind → Path → Data → Result (Unit {0}) ReadFault
+refuse_other_object_in kind p d = do
   ms ← or_shape p (as_object d)
   known kind p ms
 
@@ -83,18 +83,18 @@ unfoldable pub text_or_in : List ℕ → Member → Result (List ℕ) ReadFault
 text_or_in default m = if_there m.value default (text_of m)
 
 -- the source of the items of a task, if it has one
-unfoldable pub expand_in : Member → Result (Option (List ℕ)) ReadFault
-expand_in m = if_there m.value None (text_of m >>= λ s. Ok (Some s))
+unfoldable pub expansion_source_in : Member → Result (Option (List ℕ)) ReadFault
+expansion_source_in m = if_there m.value None (text_of m >>= λ s. Ok (Some s))
 
 -- a text that has to be an id
-unfoldable pub named_in : Path → List ℕ → Result (List ℕ) ReadFault
-named_in p s = if is_id_in s then Ok s else Err (BadName p)
+unfoldable pub id_of_text_in : Path → List ℕ → Result (List ℕ) ReadFault
+id_of_text_in p s = if is_id_in s then Ok s else Err (BadName p)
 
 -- an id that has to be there
 unfoldable pub id_in : Member → Result (List ℕ) ReadFault
 id_in m = do
   s ← text_of m
-  named_in m.path s
+  id_of_text_in m.path s
 
 -- ---- truth values and numbers
 
@@ -103,23 +103,23 @@ unfoldable pub flag_in : Member → Result Bool ReadFault
 flag_in m = if_there m.value false (typed as_bool m)
 
 -- a whole number that has to be there
-unfoldable pub whole_in : Member → Result ℤ ReadFault
-whole_in = typed (λ d. option_and_then as_i64 (as_number d))
+unfoldable pub whole_number_in : Member → Result ℤ ReadFault
+whole_number_in = typed (λ d. option_and_then as_i64 (as_number d))
 
 -- a number between these two
-unfoldable pub within_of : Path → ℕ → ℕ → ℤ → Result ℕ ReadFault
-within_of p least most (pos n) =
+unfoldable pub number_within_of : Path → ℕ → ℕ → ℤ → Result ℕ ReadFault
+number_within_of p least most (pos n) =
     if nat_le least n && nat_le n most then Ok n else Err (LimitPassed p)
-within_of p least most (negsuc n) = Err (LimitPassed p)
+number_within_of p least most (negsuc n) = Err (LimitPassed p)
 
 -- a whole number between these two, or what stands for a missing one
 unfoldable pub count_in : ℕ → ℕ → ℕ → Member → Result ℕ ReadFault
 count_in default least most m =
-    if_there m.value default (whole_in m >>= within_of m.path least most)
+    if_there m.value default (whole_number_in m >>= number_within_of m.path least most)
 
 -- a limit that has to hold
-unfoldable pub limit_of : Path → Bool → Result (Unit {0}) ReadFault
-limit_of p holds = if holds then Ok tt else Err (LimitPassed p)
+unfoldable pub refuse_beyond_limit_of : Path → Bool → Result (Unit {0}) ReadFault
+refuse_beyond_limit_of p holds = if holds then Ok tt else Err (LimitPassed p)
 
 -- ---- lists
 
@@ -147,14 +147,14 @@ each_member f (member name d ms) = do
 
 -- the texts of a list of texts
 abbrev pub texts_of : Path → Items → Result (List (List ℕ)) ReadFault
-texts_of p = each_item (λ d. text_of (there_in p d))
+texts_of p = each_item (λ d. text_of (field_with_value_in p d))
 
 -- the distinct upstreams of a task; none where the key is missing
 unfoldable pub upstreams_in : Member → Result (List (List ℕ)) ReadFault
 upstreams_in m = if_there m.value [] (do
   ds ← items_in m
   ss ← texts_of m.path ds
-  Ok (distinct_of ss))
+  Ok (distinct_texts_of ss))
 
 -- ---- pools
 
@@ -165,9 +165,9 @@ members_in = typed as_object
 -- a pool of this name
 unfoldable pub pool_in : Path → List ℕ → Data → Result PoolDraft ReadFault
 pool_in p text d = do
-  number ← whole_in (there_in p d)
-  name ← named_in p text
-  slots ← within_of p 1 most_slots number
+  number ← whole_number_in (field_with_value_in p d)
+  name ← id_of_text_in p text
+  slots ← number_within_of p 1 most_slots number
   Ok (record { name = name; slots = slots })
 
 -- the pools by name, as members stand in an object; none where the key is missing

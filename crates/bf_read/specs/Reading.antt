@@ -20,7 +20,7 @@ use Rattle.bf_read.specs.declared.fault.ReadFault.TheVariants.{NotJson, Duplicat
 use Rattle.bf_read.specs.declared.fields.ObjectKind.{ObjectKind}
 use Rattle.bf_read.specs.Drafts.{number_of_edges}
 use Rattle.bf_read.specs.Gives.{◌>>=◌}
-use Rattle.bf_read.specs.Fields.{Member, graph_member, task_member, object_in, text_of, text_or_in, id_in, kind_in, expand_in, flag_in, count_in, weight_rule_in, limit_of, items_in, upstreams_in, pools_in}
+use Rattle.bf_read.specs.Fields.{Member, graph_member, task_member, refuse_other_object_in, text_of, text_or_in, id_in, kind_in, expansion_source_in, flag_in, count_in, weight_rule_in, refuse_beyond_limit_of, items_in, upstreams_in, pools_in}
 use Rattle.bf_read.specs.Commands.{command_in}
 
 -- what a graph file says
@@ -46,27 +46,27 @@ graph_file_of draft = record {
 -- ---- tasks
 
 -- an id that no task before has
-unfoldable pub fresh_of : List TaskDraft → List ℕ → Result (List ℕ) ReadFault
-fresh_of before id =
+unfoldable pub refuse_seen_id_of : List TaskDraft → List ℕ → Result (List ℕ) ReadFault
+refuse_seen_id_of before id =
     if list_any (λ task. bytes_eq id task.id) before then Err (DuplicateTask id) else Ok id
 
 -- a task's id and its upstreams, which with those of the tasks before are not too many
-unfoldable pub place_in : List TaskDraft → (TaskKey → Member) → Result TaskPlace ReadFault
-place_in before at = do
+unfoldable pub task_place_in : List TaskDraft → (TaskKey → Member) → Result TaskPlace ReadFault
+task_place_in before at = do
   found ← id_in (at TaskKey.Id)
-  id ← fresh_of before found
+  id ← refuse_seen_id_of before found
   upstreams ← upstreams_in (at TaskKey.Upstream)
-  _ ← limit_of (at TaskKey.Upstream).path
+  _ ← refuse_beyond_limit_of (at TaskKey.Upstream).path
       (nat_le (number_of_edges before + length upstreams) most_edges)
   Ok (record { id = id; upstreams = upstreams })
 
 -- what a task does, and when
-unfoldable pub work_in : (TaskKey → Member) → Result TaskWork ReadFault
-work_in at = do
+unfoldable pub task_work_in : (TaskKey → Member) → Result TaskWork ReadFault
+task_work_in at = do
   rule ← text_or_in (codes "all_success") (at TaskKey.Rule)
   kind ← kind_in (at TaskKey.Kind)
   command ← command_in (is_some (at TaskKey.Expand).value) (at TaskKey.Command)
-  expand ← expand_in (at TaskKey.Expand)
+  expand ← expansion_source_in (at TaskKey.Expand)
   depends_on_past ← flag_in (at TaskKey.DependsOnPast)
   retries ← count_in 0 0 most_retries (at TaskKey.Retries)
   retry_delay ← count_in 0 0 longest_retry_delay (at TaskKey.RetryDelay)
@@ -81,8 +81,8 @@ work_in at = do
   })
 
 -- what a running try of a task takes, and what the task weighs
-unfoldable pub demand_in : (TaskKey → Member) → Result TaskDemand ReadFault
-demand_in at = do
+unfoldable pub task_demand_in : (TaskKey → Member) → Result TaskDemand ReadFault
+task_demand_in at = do
   pool ← text_or_in (codes "default_pool") (at TaskKey.Pool)
   slots ← count_in 1 1 most_slots (at TaskKey.PoolSlots)
   weight ← count_in 1 0 greatest_weight (at TaskKey.PriorityWeight)
@@ -109,10 +109,10 @@ task_of place work demand = record {
 -- the task at n, after these
 unfoldable pub task_in : List TaskDraft → ℕ → Data → Result TaskDraft ReadFault
 task_in before n d = do
-  _ ← object_in ObjectKind.Task (Path.Task n) d
-  place ← place_in before (task_member n d)
-  work ← work_in (task_member n d)
-  demand ← demand_in (task_member n d)
+  _ ← refuse_other_object_in ObjectKind.Task (Path.Task n) d
+  place ← task_place_in before (task_member n d)
+  work ← task_work_in (task_member n d)
+  demand ← task_demand_in (task_member n d)
   Ok (task_of place work demand)
 
 -- these tasks, and those from n on
@@ -126,7 +126,7 @@ tasks_from before n (item d ds) = do
 unfoldable pub tasks_in : Member → Result (List TaskDraft) ReadFault
 tasks_in m = do
   ds ← items_in m
-  _ ← limit_of m.path (nat_le (items_len ds) most_tasks)
+  _ ← refuse_beyond_limit_of m.path (nat_le (items_len ds) most_tasks)
   tasks_from [] 0 ds
 
 -- ---- the whole
@@ -150,7 +150,7 @@ draft_of_entry at = do
 
 unfoldable pub draft_in : Data → Result GraphFile ReadFault
 draft_in d = do
-  _ ← object_in ObjectKind.Graph Path.Top d
+  _ ← refuse_other_object_in ObjectKind.Graph Path.Top d
   draft_of_entry (graph_member d)
 
 -- what a text says that reads as this data, or as none
@@ -165,5 +165,5 @@ data_in bytes = if is_utf8 bytes then read bytes else None
 -- what a graph file says, or its first fault: it is too long, or no JSON text, or its value lacks something
 unfoldable pub graph_in : List ℕ → Result GraphFile ReadFault
 graph_in bytes = do
-  _ ← limit_of Path.Bytes (nat_le (length bytes) most_bytes)
+  _ ← refuse_beyond_limit_of Path.Bytes (nat_le (length bytes) most_bytes)
   graph_of (data_in bytes)

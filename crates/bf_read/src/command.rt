@@ -5,23 +5,23 @@ ghost use Rattle.serde_json.specs.View.{view, items_view, members_view};
 ghost use Rattle.bf_read.specs.Drafts.{pulled_by, pulled_in};
 ghost use Rattle.bf_read.specs.Gives.{Gives};
 ghost use Rattle.bf_read.specs.Fields.{member_of};
-ghost use Rattle.bf_read.specs.Commands.{only_in, only_member_in, context_word_of, pull_word_of, item_word_of, keyed_word_of, word_in, words_of, is_short_in, command_in};
+ghost use Rattle.bf_read.specs.Commands.{only_entry_in, only_member_in, context_word_of, pull_word_of, item_word_of, keyed_word_of, word_in, words_of, is_short_word_in, command_in};
 ghost use Rattle.bf_read.specs.Limits.{most_words, most_pulls};
 
 use crate::draft::WordDraft;
 use crate::fault::ReadFault;
-use crate::fields::{Field, flag_at, items_at, limit, text_at, there};
+use crate::fields::{Field, field_with_value, flag_at, items_at, refuse_beyond_limit, text_at};
 use crate::limits::{LONGEST_WORD, MOST_PULLS, MOST_WORDS};
 use crate::path::Path;
-use crate::texts::distinct;
+use crate::texts::distinct_texts;
 use bf_plan::ContextVariable;
 use bf_value::{OutOfMemory, Sequence, Text};
 use serde_json::{Map, Value};
 use std::alloc::Global;
 
-fn only_of<'a>(members: &'a Map<String, Value>) -> Option<(&'a str, &'a Value)>
+fn only_entry_of<'a>(members: &'a Map<String, Value>) -> Option<(&'a str, &'a Value)>
     ensures { option_map (λ m. (m.0.now, view m.1.now)) result
-        ≡ only_in (members_view members.entry.now.entries) }
+        ≡ only_entry_in (members_view members.entry.now.entries) }
 {
     if members.len() != 1 {
         return None;
@@ -40,7 +40,7 @@ fn only_member<'a>(path: Path, value: &'a Value) -> Result<(&'a str, &'a Value),
 {
     value
         .as_object()
-        .and_then(|members| only_of(members))
+        .and_then(|members| only_entry_of(members))
         .ok_or(ReadFault::Shape(path))
 }
 
@@ -60,7 +60,7 @@ fn pull_word(alloc: Global, field: Field) -> Result<WordDraft, ReadFault>
     ensures { Gives (λ w. w) result (pull_word_of (member_of field.entry)) }
 {
     let id = text_at(field)?;
-    Ok(WordDraft::Pull(Text::copied(alloc, id)?))
+    Ok(WordDraft::Pull(Text::copy_of(alloc, id)?))
 }
 
 #[tactic(auto, unfolding(crate::specs::Commands::item_word))]
@@ -76,7 +76,7 @@ fn item_word(is_expanded: bool, field: Field) -> Result<WordDraft, ReadFault>
 
 /// The word of an object whose one member is this.
 #[tactic(auto, unfolding(crate::specs::Commands::keyed_word))]
-fn keyed_word(
+fn word_with_key(
     alloc: Global,
     is_expanded: bool,
     key: &str,
@@ -102,10 +102,10 @@ fn word_at(
     ensures { Gives (λ w. w) result (word_in is_expanded path (view value.now)) }
 {
     if let Some(text) = value.as_str() {
-        return Ok(WordDraft::Text(Text::copied(alloc, text)?));
+        return Ok(WordDraft::Text(Text::copy_of(alloc, text)?));
     }
     let (key, value) = only_member(path, value)?;
-    keyed_word(alloc, is_expanded, key, there(path, value))
+    word_with_key(alloc, is_expanded, key, field_with_value(path, value))
 }
 
 fn words_in(
@@ -123,8 +123,8 @@ fn words_in(
     Ok(words)
 }
 
-fn is_short(word: &WordDraft) -> bool
-    ensures { result ≡ is_short_in word.now }
+fn is_short_word(word: &WordDraft) -> bool
+    ensures { result ≡ is_short_word_in word.now }
 {
     match word {
         WordDraft::Text(text) => text.as_str().len() <= LONGEST_WORD,
@@ -133,10 +133,10 @@ fn is_short(word: &WordDraft) -> bool
     }
 }
 
-fn are_short(words: &[WordDraft]) -> bool
-    ensures { result ≡ list_all is_short_in words.now }
+fn are_short_words(words: &[WordDraft]) -> bool
+    ensures { result ≡ list_all is_short_word_in words.now }
 {
-    words.iter().all(|word| is_short(word))
+    words.iter().all(|word| is_short_word(word))
 }
 
 fn pulled_id<'a>(word: &'a WordDraft) -> Option<&'a str>
@@ -166,7 +166,7 @@ pub fn pulls_of(alloc: Global, words: &[WordDraft]) -> Result<Vec<Text>, OutOfMe
     ensures { IfOk result (λ v. v.items ≡ pulled_in words.now) }
 {
     let ids = pulled_ids(alloc, words)?;
-    distinct(alloc, ids.as_slice())
+    distinct_texts(alloc, ids.as_slice())
 }
 
 /// The command of a task, without words where the key is missing. Its limits are looked at once each word
@@ -186,9 +186,9 @@ pub(crate) fn command_at(
     }
     let items = items_at(field)?;
     let words = words_in(alloc, is_expanded, field.path, items)?;
-    limit(field.path, words.len() <= MOST_WORDS)?;
-    limit(field.path, are_short(words.as_slice()))?;
+    refuse_beyond_limit(field.path, words.len() <= MOST_WORDS)?;
+    refuse_beyond_limit(field.path, are_short_words(words.as_slice()))?;
     let pulls = pulls_of(alloc, words.as_slice())?;
-    limit(field.path, pulls.len() <= MOST_PULLS)?;
+    refuse_beyond_limit(field.path, pulls.len() <= MOST_PULLS)?;
     Ok(Sequence::from_vec(words))
 }

@@ -26,7 +26,7 @@ pub enum ReadFault {
 
 impl ReadFault {
     /// The number of the refusal, which want of memory doesn't have.
-    pub fn number(&self) -> Option<u32>
+    pub fn refusal_number(&self) -> Option<u32>
         ensures { result ≡ fault_number self.now }
     {
         match self {

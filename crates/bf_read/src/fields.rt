@@ -5,7 +5,7 @@ ghost use Rattle.std.specs.List.{list_all};
 ghost use Rattle.serde_json.specs.View.{view, items_view, members_view};
 ghost use Rattle.bf_read.specs.Gives.{Gives};
 ghost use Rattle.bf_plan.specs.Ids.{is_id_in};
-ghost use Rattle.bf_read.specs.Fields.{member_of, there_in, graph_member, task_member, text_of, text_or_in, expand_in, id_in, named_in, is_key_in, has_known_keys_in, object_in, items_in, flag_in, whole_in, within_of, count_in, limit_of, members_in};
+ghost use Rattle.bf_read.specs.Fields.{member_of, field_with_value_in, graph_member, task_member, text_of, text_or_in, expansion_source_in, id_in, id_of_text_in, is_key_in, has_known_keys_in, refuse_other_object_in, items_in, flag_in, whole_number_in, number_within_of, count_in, refuse_beyond_limit_of, members_in};
 
 use crate::fault::ReadFault;
 use crate::keys::{GraphKey, TaskKey, is_graph_key, is_task_key};
@@ -30,8 +30,8 @@ pub(crate) struct Field<'a> {
 }
 
 /// A value that is there.
-pub(crate) fn there<'a>(path: Path, value: &'a Value) -> Field<'a>
-    ensures { member_of result ≡ there_in path (view value.entry.now) }
+pub(crate) fn field_with_value<'a>(path: Path, value: &'a Value) -> Field<'a>
+    ensures { member_of result ≡ field_with_value_in path (view value.entry.now) }
 {
     Field {
         path,
@@ -54,7 +54,7 @@ pub(crate) struct TaskObject<'a> {
 
 impl<'a> GraphObject<'a> {
     /// The member at a key.
-    pub(crate) fn at(self, key: GraphKey) -> Field<'a>
+    pub(crate) fn member_at(self, key: GraphKey) -> Field<'a>
         ensures { member_of result ≡ graph_member (view self.entry.value.now) is_key_in }
     {
         Field {
@@ -66,7 +66,7 @@ impl<'a> GraphObject<'a> {
 
 impl<'a> TaskObject<'a> {
     /// The member at a key.
-    pub(crate) fn at(self, key: TaskKey) -> Field<'a>
+    pub(crate) fn member_at(self, key: TaskKey) -> Field<'a>
         ensures { member_of result
             ≡ task_member self.entry.n (view self.entry.value.now) is_key_in }
     {
@@ -100,8 +100,12 @@ fn has_known_keys(kind: ObjectKind, members: &Map<String, Value>) -> bool
 
 /// Refuses what is no object, and an object with an unknown key.
 #[tactic(auto, unfolding(crate::specs::Fields::object_at))]
-pub(crate) fn object_at(kind: ObjectKind, path: Path, value: &Value) -> Result<(), ReadFault>
-    ensures { Gives (λ u. u) result (object_in kind path (view value.now)) }
+pub(crate) fn refuse_other_object(
+    kind: ObjectKind,
+    path: Path,
+    value: &Value,
+) -> Result<(), ReadFault>
+    ensures { Gives (λ u. u) result (refuse_other_object_in kind path (view value.now)) }
 {
     match value.as_object() {
         Some(members) if has_known_keys(kind, members) => Ok(()),
@@ -126,33 +130,33 @@ pub(crate) fn text_or(alloc: Global, default: &str, field: Field) -> Result<Text
     ensures { Gives (λ s. s) result (text_or_in default.now (member_of field.entry)) }
 {
     if field.value.is_none() {
-        return Ok(Text::copied(alloc, default)?);
+        return Ok(Text::copy_of(alloc, default)?);
     }
-    Ok(Text::copied(alloc, text_at(field)?)?)
+    Ok(Text::copy_of(alloc, text_at(field)?)?)
 }
 
 /// The source of the items of a task, if it has one.
 #[tactic(auto, unfolding(crate::specs::Fields::expand_at))]
-pub(crate) fn expand_at(alloc: Global, field: Field) -> Result<Option<Text>, ReadFault>
-    ensures { Gives (λ s. s) result (expand_in (member_of field.entry)) }
+pub(crate) fn expansion_source_at(alloc: Global, field: Field) -> Result<Option<Text>, ReadFault>
+    ensures { Gives (λ s. s) result (expansion_source_in (member_of field.entry)) }
 {
     if field.value.is_none() {
         return Ok(None);
     }
-    Ok(Some(Text::copied(alloc, text_at(field)?)?))
+    Ok(Some(Text::copy_of(alloc, text_at(field)?)?))
 }
 
 /// A text that has to be an id.
 #[tactic(auto, unfolding(crate::specs::Fields::named_at))]
-pub(crate) fn named_at(alloc: Global, path: Path, text: &str) -> Result<Text, ReadFault>
-    ensures exact { Gives (λ s. s) result (named_in path text.now) }
+pub(crate) fn id_of_text(alloc: Global, path: Path, text: &str) -> Result<Text, ReadFault>
+    ensures exact { Gives (λ s. s) result (id_of_text_in path text.now) }
     ensures same { IfOk result (λ s. s ≡ text.now) }
     ensures id { IfOk result (λ s. is_id_in s ≡ true) }
 {
     if !is_id(text) {
         return Err(ReadFault::BadName(path));
     }
-    Ok(Text::copied(alloc, text)?)
+    Ok(Text::copy_of(alloc, text)?)
 }
 
 /// An id that has to be there.
@@ -162,7 +166,7 @@ pub(crate) fn id_at(alloc: Global, field: Field) -> Result<Text, ReadFault>
     ensures id { IfOk result (λ s. is_id_in s ≡ true) }
 {
     let text = text_at(field)?;
-    named_at(alloc, field.path, text)
+    id_of_text(alloc, field.path, text)
 }
 
 /// A truth value, which is false where it is missing.
@@ -178,8 +182,8 @@ pub(crate) fn flag_at(field: Field) -> Result<bool, ReadFault>
 
 /// A whole number that has to be there.
 #[tactic(auto, unfolding(crate::specs::Fields::whole_at))]
-pub(crate) fn whole_at(field: Field) -> Result<i64, ReadFault>
-    ensures { Gives (λ z. z) result (whole_in (member_of field.entry)) }
+pub(crate) fn whole_number_at(field: Field) -> Result<i64, ReadFault>
+    ensures { Gives (λ z. z) result (whole_number_in (member_of field.entry)) }
 {
     field
         .value
@@ -189,8 +193,13 @@ pub(crate) fn whole_at(field: Field) -> Result<i64, ReadFault>
 
 /// Refuses a whole number that isn't between these two.
 #[tactic(auto, unfolding(crate::specs::Fields::within))]
-pub(crate) fn within(path: Path, least: u32, most: u32, number: i64) -> Result<u32, ReadFault>
-    ensures exact { Gives (λ n. n) result (within_of path least most number) }
+pub(crate) fn number_within(
+    path: Path,
+    least: u32,
+    most: u32,
+    number: i64,
+) -> Result<u32, ReadFault>
+    ensures exact { Gives (λ n. n) result (number_within_of path least most number) }
     ensures least { IfOk result (λ n. least ≤ n) }
     ensures most { IfOk result (λ n. n ≤ most) }
 {
@@ -210,14 +219,14 @@ pub(crate) fn count_at(default: u32, least: u32, most: u32, field: Field) -> Res
     if field.value.is_none() {
         return Ok(default);
     }
-    let number = whole_at(field)?;
-    within(field.path, least, most, number)
+    let number = whole_number_at(field)?;
+    number_within(field.path, least, most, number)
 }
 
 /// Refuses what passes a limit.
 #[tactic(auto, unfolding(crate::specs::Fields::limit))]
-pub(crate) fn limit(path: Path, holds: bool) -> Result<(), ReadFault>
-    ensures exact { Gives (λ u. u) result (limit_of path holds) }
+pub(crate) fn refuse_beyond_limit(path: Path, holds: bool) -> Result<(), ReadFault>
+    ensures exact { Gives (λ u. u) result (refuse_beyond_limit_of path holds) }
     ensures holds { OnOk result (holds ≡ true) }
 {
     if !holds {

@@ -7,7 +7,9 @@ ghost use Rattle.bf_read.specs.Fields.{member_of, pool_in, each_member, pools_in
 
 use crate::draft::PoolDraft;
 use crate::fault::ReadFault;
-use crate::fields::{Field, members_at, named_at, there, whole_at, within};
+use crate::fields::{
+    Field, field_with_value, id_of_text, members_at, number_within, whole_number_at,
+};
 use crate::limits::MOST_SLOTS;
 use crate::path::Path;
 use bf_value::Sequence;
@@ -20,9 +22,9 @@ fn pool_at(alloc: Global, path: Path, name: &str, value: &Value) -> Result<PoolD
     ensures named { IfOk result (λ p. p.name ≡ name.now) }
     ensures pool { IfOk result IsPool }
 {
-    let number = whole_at(there(path, value))?;
-    let name = named_at(alloc, path, name)?;
-    let slots = within(path, 1, MOST_SLOTS, number)?;
+    let number = whole_number_at(field_with_value(path, value))?;
+    let name = id_of_text(alloc, path, name)?;
+    let slots = number_within(path, 1, MOST_SLOTS, number)?;
     Ok(PoolDraft { name, slots })
 }
 

@@ -7,7 +7,10 @@ ghost use Rattle.bf_read.specs.Reading.{draft_of_entry, draft_in, graph_in, grap
 
 use crate::draft::Draft;
 use crate::fault::ReadFault;
-use crate::fields::{GraphObject, ObjectKind, count_at, id_at, limit, object_at, text_at, text_or};
+use crate::fields::{
+    GraphObject, ObjectKind, count_at, id_at, refuse_beyond_limit, refuse_other_object, text_at,
+    text_or,
+};
 use crate::keys::GraphKey;
 use crate::limits::{MOST_ACTIVE_RUNS, MOST_BYTES};
 use crate::path::Path;
@@ -18,18 +21,18 @@ use serde_json::Value;
 use std::alloc::Global;
 
 #[tactic(auto, unfolding(crate::specs::Reading::draft_at))]
-fn draft_at(alloc: Global, graph: GraphObject) -> Result<Draft, ReadFault>
+fn draft_of_object(alloc: Global, graph: GraphObject) -> Result<Draft, ReadFault>
     ensures { Gives graph_file_of result
         (draft_of_entry (graph_member (view graph.entry.value.now))) }
 {
-    let dag_id = id_at(alloc, graph.at(GraphKey::DagId))?;
-    let schedule = text_at(graph.at(GraphKey::Schedule))?;
-    let schedule = Text::copied(alloc, schedule)?;
-    let zone = text_or(alloc, "UTC", graph.at(GraphKey::Zone))?;
-    let runs = graph.at(GraphKey::MaxActiveRuns);
+    let dag_id = id_at(alloc, graph.member_at(GraphKey::DagId))?;
+    let schedule = text_at(graph.member_at(GraphKey::Schedule))?;
+    let schedule = Text::copy_of(alloc, schedule)?;
+    let zone = text_or(alloc, "UTC", graph.member_at(GraphKey::Zone))?;
+    let runs = graph.member_at(GraphKey::MaxActiveRuns);
     let max_active_runs = count_at(16, 1, MOST_ACTIVE_RUNS, runs)?;
-    let pools = pools_at(alloc, graph.at(GraphKey::Pools))?;
-    let tasks = tasks_at(alloc, graph.at(GraphKey::Tasks))?;
+    let pools = pools_at(alloc, graph.member_at(GraphKey::Pools))?;
+    let tasks = tasks_at(alloc, graph.member_at(GraphKey::Tasks))?;
     Ok(Draft {
         dag_id,
         schedule,
@@ -45,8 +48,8 @@ fn draft_at(alloc: Global, graph: GraphObject) -> Result<Draft, ReadFault>
 fn draft_of(alloc: Global, value: &Value) -> Result<Draft, ReadFault>
     ensures { Gives graph_file_of result (draft_in (view value.now)) }
 {
-    object_at(ObjectKind::Graph, Path::Top, value)?;
-    draft_at(alloc, GraphObject { value })
+    refuse_other_object(ObjectKind::Graph, Path::Top, value)?;
+    draft_of_object(alloc, GraphObject { value })
 }
 
 /// The draft of a graph file, or the first fault: first a file that is too long, then one that is no JSON
@@ -55,7 +58,7 @@ fn draft_of(alloc: Global, value: &Value) -> Result<Draft, ReadFault>
 pub fn read_graph(alloc: Global, bytes: &[u8]) -> Result<Draft, ReadFault>
     ensures { Gives graph_file_of result (graph_in bytes.now) }
 {
-    limit(Path::Bytes, bytes.len() <= MOST_BYTES)?;
+    refuse_beyond_limit(Path::Bytes, bytes.len() <= MOST_BYTES)?;
     match Value::from_slice(alloc, bytes) {
         Ok(value) => draft_of(alloc, &value),
         Err(e) if e.is_memory() => Err(ReadFault::OutOfMemory),

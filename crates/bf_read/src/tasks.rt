@@ -8,16 +8,16 @@ ghost use Rattle.bf_value.specs.Distinct.{AreDistinct};
 ghost use Rattle.bf_read.specs.Gives.{Gives};
 ghost use Rattle.bf_plan.specs.Ids.{is_id_in};
 ghost use Rattle.bf_read.specs.Drafts.{number_of_edges, pulled_in, AreTasks, MayFollow};
-ghost use Rattle.bf_read.specs.Fields.{member_of, task_member, limit_of};
-ghost use Rattle.bf_read.specs.Reading.{fresh_of, place_in, work_in, demand_in, task_in, tasks_from, tasks_in};
+ghost use Rattle.bf_read.specs.Fields.{member_of, task_member, refuse_beyond_limit_of};
+ghost use Rattle.bf_read.specs.Reading.{refuse_seen_id_of, task_place_in, task_work_in, task_demand_in, task_in, tasks_from, tasks_in};
 ghost use Rattle.bf_read.specs.Limits.{most_edges, most_tasks, most_words, most_pulls, most_retries, longest_retry_delay, most_slots, greatest_weight};
 
 use crate::command::command_at;
 use crate::draft::{DEFAULT_POOL, TaskDraft, WordDraft, edge_count};
 use crate::fault::ReadFault;
 use crate::fields::{
-    Field, ObjectKind, TaskObject, count_at, expand_at, flag_at, id_at, items_at, limit, object_at,
-    text_or,
+    Field, ObjectKind, TaskObject, count_at, expansion_source_at, flag_at, id_at, items_at,
+    refuse_beyond_limit, refuse_other_object, text_or,
 };
 use crate::keys::TaskKey;
 use crate::kinds::{kind_at, weight_rule_at};
@@ -59,7 +59,7 @@ struct TaskDemand {
     weight_rule: WeightRule,
 }
 
-fn is_seen(tasks: &[TaskDraft], id: &str) -> bool
+fn has_task_with_id(tasks: &[TaskDraft], id: &str) -> bool
     ensures { result ≡ list_any (λ task. bytes_eq id.now task.id) tasks.now }
 {
     tasks.iter().any(|task| id == task.id.as_str())
@@ -67,32 +67,36 @@ fn is_seen(tasks: &[TaskDraft], id: &str) -> bool
 
 /// Refuses an id that a task before has.
 #[tactic(auto, unfolding(crate::specs::Reading::fresh))]
-fn fresh(tasks: &[TaskDraft], id: Text) -> Result<Text, ReadFault>
-    ensures exact { Gives (λ id. id) result (fresh_of tasks.now id) }
+fn refuse_seen_id(tasks: &[TaskDraft], id: Text) -> Result<Text, ReadFault>
+    ensures exact { Gives (λ id. id) result (refuse_seen_id_of tasks.now id) }
     ensures fresh { IfOk result (λ id. list_any (λ task. bytes_eq id task.id) tasks.now ≡ false) }
     ensures same { IfOk result (λ fresh. fresh ≡ id) }
 {
-    if is_seen(tasks, id.as_str()) {
+    if has_task_with_id(tasks, id.as_str()) {
         return Err(ReadFault::DuplicateTask(id));
     }
     Ok(id)
 }
 
 #[tactic(auto, unfolding(crate::specs::Reading::place_at))]
-fn place_of(alloc: Global, tasks: &[TaskDraft], task: TaskObject) -> Result<TaskPlace, ReadFault>
+fn task_place_of(
+    alloc: Global,
+    tasks: &[TaskDraft],
+    task: TaskObject,
+) -> Result<TaskPlace, ReadFault>
     requires { number_of_edges tasks.now ≤ most_edges }
     ensures exact { Gives (λ p. p) result
-        (place_in tasks.now (task_member task.entry.n (view task.entry.value.now))) }
+        (task_place_in tasks.now (task_member task.entry.n (view task.entry.value.now))) }
     ensures fresh { IfOk result (λ p. list_any (λ task. bytes_eq p.id task.id) tasks.now ≡ false) }
     ensures id { IfOk result (λ p. is_id_in p.id ≡ true) }
     ensures distinct { IfOk result (λ p. AreDistinct p.upstreams) }
     ensures few { IfOk result (λ p. number_of_edges tasks.now + length p.upstreams ≤ most_edges) }
 {
-    let id = id_at(alloc, task.at(TaskKey::Id))?;
-    let id = fresh(tasks, id)?;
-    let field = task.at(TaskKey::Upstream);
+    let id = id_at(alloc, task.member_at(TaskKey::Id))?;
+    let id = refuse_seen_id(tasks, id)?;
+    let field = task.member_at(TaskKey::Upstream);
     let upstreams = upstreams_at(alloc, field)?;
-    limit(
+    refuse_beyond_limit(
         field.path,
         upstreams.len() <= MOST_EDGES - edge_count(tasks),
     )?;
@@ -103,23 +107,28 @@ fn place_of(alloc: Global, tasks: &[TaskDraft], task: TaskObject) -> Result<Task
 }
 
 #[tactic(auto, unfolding(crate::specs::Reading::work_at))]
-fn work_of(alloc: Global, task: TaskObject) -> Result<TaskWork, ReadFault>
+fn task_work_of(alloc: Global, task: TaskObject) -> Result<TaskWork, ReadFault>
     ensures exact { Gives (λ w. w) result
-        (work_in (task_member task.entry.n (view task.entry.value.now))) }
+        (task_work_in (task_member task.entry.n (view task.entry.value.now))) }
     ensures few_words { IfOk result (λ w. length w.command ≤ most_words) }
     ensures few_pulls { IfOk result (λ w. length (pulled_in w.command) ≤ most_pulls) }
     ensures few_retries { IfOk result (λ w. w.retries ≤ most_retries) }
     ensures short_delay { IfOk result (λ w. w.retry_delay ≤ longest_retry_delay) }
 {
-    let rule = text_or(alloc, "all_success", task.at(TaskKey::Rule))?;
-    let kind = kind_at(task.at(TaskKey::Kind))?;
-    let source = task.at(TaskKey::Expand);
+    let rule = text_or(alloc, "all_success", task.member_at(TaskKey::Rule))?;
+    let kind = kind_at(task.member_at(TaskKey::Kind))?;
+    let source = task.member_at(TaskKey::Expand);
     let is_expanded = source.value.is_some();
-    let command = command_at(alloc, is_expanded, task.at(TaskKey::Command))?;
-    let expand = expand_at(alloc, source)?;
-    let depends_on_past = flag_at(task.at(TaskKey::DependsOnPast))?;
-    let retries = count_at(0, 0, MOST_RETRIES, task.at(TaskKey::Retries))?;
-    let retry_delay = count_at(0, 0, LONGEST_RETRY_DELAY, task.at(TaskKey::RetryDelay))?;
+    let command = command_at(alloc, is_expanded, task.member_at(TaskKey::Command))?;
+    let expand = expansion_source_at(alloc, source)?;
+    let depends_on_past = flag_at(task.member_at(TaskKey::DependsOnPast))?;
+    let retries = count_at(0, 0, MOST_RETRIES, task.member_at(TaskKey::Retries))?;
+    let retry_delay = count_at(
+        0,
+        0,
+        LONGEST_RETRY_DELAY,
+        task.member_at(TaskKey::RetryDelay),
+    )?;
     Ok(TaskWork {
         rule,
         kind,
@@ -132,17 +141,22 @@ fn work_of(alloc: Global, task: TaskObject) -> Result<TaskWork, ReadFault>
 }
 
 #[tactic(auto, unfolding(crate::specs::Reading::demand_at))]
-fn demand_of(alloc: Global, task: TaskObject) -> Result<TaskDemand, ReadFault>
+fn task_demand_of(alloc: Global, task: TaskObject) -> Result<TaskDemand, ReadFault>
     ensures exact { Gives (λ d. d) result
-        (demand_in (task_member task.entry.n (view task.entry.value.now))) }
+        (task_demand_in (task_member task.entry.n (view task.entry.value.now))) }
     ensures some_slots { IfOk result (λ d. 1 ≤ d.slots) }
     ensures few_slots { IfOk result (λ d. d.slots ≤ most_slots) }
     ensures light { IfOk result (λ d. d.weight ≤ greatest_weight) }
 {
-    let pool = text_or(alloc, DEFAULT_POOL, task.at(TaskKey::Pool))?;
-    let slots = count_at(1, 1, MOST_SLOTS, task.at(TaskKey::PoolSlots))?;
-    let weight = count_at(1, 0, GREATEST_WEIGHT, task.at(TaskKey::PriorityWeight))?;
-    let weight_rule = weight_rule_at(task.at(TaskKey::WeightRule))?;
+    let pool = text_or(alloc, DEFAULT_POOL, task.member_at(TaskKey::Pool))?;
+    let slots = count_at(1, 1, MOST_SLOTS, task.member_at(TaskKey::PoolSlots))?;
+    let weight = count_at(
+        1,
+        0,
+        GREATEST_WEIGHT,
+        task.member_at(TaskKey::PriorityWeight),
+    )?;
+    let weight_rule = weight_rule_at(task.member_at(TaskKey::WeightRule))?;
     Ok(TaskDemand {
         pool,
         slots,
@@ -163,11 +177,11 @@ fn task_of(
     ensures exact { Gives (λ t. t) result (task_in tasks.now n (view value.now)) }
     ensures follows { IfOk result (MayFollow tasks.now) }
 {
-    object_at(ObjectKind::Task, Path::Task(n), value)?;
+    refuse_other_object(ObjectKind::Task, Path::Task(n), value)?;
     let task = TaskObject { n, value };
-    let place = place_of(alloc, tasks, task)?;
-    let work = work_of(alloc, task)?;
-    let demand = demand_of(alloc, task)?;
+    let place = task_place_of(alloc, tasks, task)?;
+    let work = task_work_of(alloc, task)?;
+    let demand = task_demand_of(alloc, task)?;
     Ok(TaskDraft {
         id: place.id,
         upstreams: place.upstreams,
@@ -199,12 +213,12 @@ fn tasks_of(alloc: Global, items: &[Value]) -> Result<Vec<TaskDraft>, ReadFault>
 }
 
 /// Refuses more tasks than there may be.
-fn few_tasks(path: Path, items: &[Value]) -> Result<(), ReadFault>
+fn refuse_too_many_tasks(path: Path, items: &[Value]) -> Result<(), ReadFault>
     ensures exact { Gives (λ u. u) result
-        (limit_of path (nat_le (items_len (items_view items.now)) most_tasks)) }
+        (refuse_beyond_limit_of path (nat_le (items_len (items_view items.now)) most_tasks)) }
     ensures few { OnOk result (length items.now ≤ most_tasks) }
 {
-    limit(path, items.len() <= MOST_TASKS)
+    refuse_beyond_limit(path, items.len() <= MOST_TASKS)
 }
 
 /// The tasks of a file, which have to be there.
@@ -214,7 +228,7 @@ pub(crate) fn tasks_at(alloc: Global, field: Field) -> Result<Sequence<TaskDraft
     ensures tasks { IfOk result AreTasks }
 {
     let items = items_at(field)?;
-    few_tasks(field.path, items)?;
+    refuse_too_many_tasks(field.path, items)?;
     let tasks = tasks_of(alloc, items)?;
     Ok(Sequence::from_vec(tasks))
 }

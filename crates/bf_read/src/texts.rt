@@ -3,11 +3,11 @@ ghost use Rattle.std.specs.Prelude.{◌≡◌, map, IfOk};
 ghost use Rattle.serde_json.specs.View.{items_view};
 ghost use Rattle.bf_read.specs.Gives.{Gives};
 ghost use Rattle.bf_value.specs.Distinct.{AreDistinct};
-ghost use Rattle.bf_read.specs.Drafts.{distinct_of};
+ghost use Rattle.bf_read.specs.Drafts.{distinct_texts_of};
 ghost use Rattle.bf_read.specs.Fields.{member_of, texts_of, upstreams_in};
 
 use crate::fault::ReadFault;
-use crate::fields::{Field, items_at, text_at, there};
+use crate::fields::{Field, field_with_value, items_at, text_at};
 use crate::path::Path;
 use bf_value::{OutOfMemory, Text};
 use serde_json::Value;
@@ -21,20 +21,20 @@ fn texts_in<'a>(alloc: Global, path: Path, items: &'a [Value]) -> Result<Vec<&'a
 {
     let mut texts = Vec::new(alloc);
     for item in items {
-        texts.push(text_at(there(path, item))?)?;
+        texts.push(text_at(field_with_value(path, item))?)?;
     }
     Ok(texts)
 }
 
 /// Each text once, in order of first use.
-pub(crate) fn distinct(alloc: Global, texts: &[&str]) -> Result<Vec<Text>, OutOfMemory>
-    ensures { IfOk result (λ v. v.items ≡ distinct_of (map (λ s. s.now) texts.now)) }
+pub(crate) fn distinct_texts(alloc: Global, texts: &[&str]) -> Result<Vec<Text>, OutOfMemory>
+    ensures { IfOk result (λ v. v.items ≡ distinct_texts_of (map (λ s. s.now) texts.now)) }
 {
     let mut seen = HashSet::new(alloc);
     let mut found = Vec::new(alloc);
     for text in texts {
         if seen.insert(*text)? {
-            found.push(Text::copied(alloc, text)?)?;
+            found.push(Text::copy_of(alloc, text)?)?;
         }
     }
     Ok(found)
@@ -51,5 +51,5 @@ pub(crate) fn upstreams_at(alloc: Global, field: Field) -> Result<Vec<Text>, Rea
     }
     let items = items_at(field)?;
     let texts = texts_in(alloc, field.path, items)?;
-    Ok(distinct(alloc, texts.as_slice())?)
+    Ok(distinct_texts(alloc, texts.as_slice())?)
 }

@@ -7,11 +7,11 @@ use Rattle.bf_core.specs.Deciding.{all_passed, branch_is, branch_skips, counts_o
 use Rattle.std.specs.Prelude.{slice_get, slice_index_or}
 use Rattle.bf_mapped.specs.Items.{items_of}
 use Rattle.bf_plan.specs.Plans.{no_task}
-use Rattle.bf_xcom.specs.Pulls.{pushed_of}
+use Rattle.bf_xcom.specs.Pulls.{pushed_value_of}
 use Rattle.bf_report.specs.declared.report.TaskReport.{TaskReport}
 use Rattle.bf_reason.specs.declared.cause.StateCause.{StateCause}
 use Rattle.bf_reason.specs.Causes.{cause_by_count, cause_of, item_count, past_lets_go_on_of, values_given}
-use Rattle.bf_reason.specs.Reasons.{Reason, waits, not_followed, branch_is_blocked, past_has_not_passed, by_items, by_past, by_verdict_of, reason}
+use Rattle.bf_reason.specs.Reasons.{Reason, waits, not_followed, branch_is_blocked, past_has_not_passed, by_items, by_past, cause_by_verdict_of, reason}
 use Rattle.bf_reason.specs.Settled.{before_among, seen_among, value_among}
 
 all_decide : (dag : Dag) (task : Task) (tasks : List TaskReport) (us : List ℕ) → list_all (lets_decide_in dag task (seen_among tasks)) us ≡ true
@@ -28,7 +28,7 @@ module _ (dag : Dag) (run : ℕ) (tasks : List TaskReport) (before : Option Task
   Blocks us = list_any (λ u. branch_is dag is_blocked_in u (Some (value_among tasks u))) us
 
   abbrev Rules : Task → List ℕ → Reason
-  Rules of us = by_verdict_of dag run (seen_among tasks) before task (verdict of.rule (counts_over (seen_among tasks) us))
+  Rules of us = cause_by_verdict_of dag run (seen_among tasks) before task (verdict of.rule (counts_over (seen_among tasks) us))
 
   abbrev chosen : Bool → Bool → Bool → Reason → Reason
   chosen all skips blocks rules = if not all then waits else (if skips then not_followed else (if blocks then branch_is_blocked else rules))
@@ -80,10 +80,10 @@ length_map f [] = refl
 length_map f (x ∷ xs) = ap suc (length_map f xs)
 
 abbrev has_pushed : TaskResult → Bool
-has_pushed ended = is_some (pushed_of ended)
+has_pushed ended = is_some (pushed_value_of ended)
 
 abbrev values_of : List TaskResult → List Xval
-values_of results = filter_map (λ value. value) (map pushed_of results)
+values_of results = filter_map (λ value. value) (map pushed_value_of results)
 
 one_pushed : (value : Option Xval) (result : TaskResult) (kept : List TaskResult) (values : List Xval) → length kept ≡ length values →
     length {A = TaskResult} (if is_some value then result ∷ kept else kept) ≡ length {A = Xval} (cons_option value values)
@@ -93,7 +93,7 @@ one_pushed (Some given) result kept values same = ap suc same
 -- as many instances pushed something as values are left
 pub pushed_count : (results : List TaskResult) → length (filter has_pushed results) ≡ length (values_of results)
 pushed_count [] = refl
-pushed_count (result ∷ results) = one_pushed (pushed_of result) result (filter has_pushed results) (values_of results) (pushed_count results)
+pushed_count (result ∷ results) = one_pushed (pushed_value_of result) result (filter has_pushed results) (values_of results) (pushed_count results)
 
 pub items_by : (source : Task) (value : TaskValue) → items_of (values_given (is_some source.expand) value) ≡ items source value
 items_by source TaskValue.Blocked = refl

@@ -10,7 +10,7 @@ use Rattle.bf_reason.specs.declared.cause.StateCause.{StateCause}
 use Rattle.bf_reason.specs.Reasons.{decided_for, Reason, not_followed, rule_fails, branch_is_blocked, runs}
 use Rattle.bf_reason.specs.Causes.{cause_of}
 use Rattle.std.specs.Char.{is_ascii_digit}
-use Rattle.bf_reason.specs.Letters.{any_letter, first_by_of, follows, ended_letter_of, instance_letter, expanded_letter, digit_for, foreign_letter, letter_for, success, failed, skipped, upstream_failed, no_status, state_of_outcome, told_state, is_success, state_of_instances, state_of}
+use Rattle.bf_reason.specs.Letters.{any_letter, letter_by_flags_of, follows, ended_letter_of, instance_letter, expanded_letter, digit_for, foreign_letter, letter_for, success, failed, skipped, upstream_failed, no_status, state_of_outcome, told_state, is_success, state_of_instances, state_of}
 
 -- ---- without a try
 
@@ -85,7 +85,7 @@ any_success (instance ∷ instances) =
 
 -- the letters by which instances there are
 upper_told : (some_f some_r some_s : Bool) →
-    told_state (if first_by_of some_f some_r some_s == byte "f" then byte "F" else (if first_by_of some_f some_r some_s == byte "r" then byte "R" else (if first_by_of some_f some_r some_s == byte "s" then byte "S" else byte "X")))
+    told_state (if letter_by_flags_of some_f some_r some_s == byte "f" then byte "F" else (if letter_by_flags_of some_f some_r some_s == byte "r" then byte "R" else (if letter_by_flags_of some_f some_r some_s == byte "s" then byte "S" else byte "X")))
     ≡ (if some_f then failed else (if some_r || some_s then success else skipped))
 upper_told true some_r some_s = refl
 upper_told false true some_s = refl
@@ -93,7 +93,7 @@ upper_told false false true = refl
 upper_told false false false = refl
 
 digits_told : (some_f some_r some_s : Bool) →
-    told_state (if first_by_of some_f some_r some_s == byte "f" then byte "8" else (if first_by_of some_f some_r some_s == byte "x" then byte "9" else byte "7"))
+    told_state (if letter_by_flags_of some_f some_r some_s == byte "f" then byte "8" else (if letter_by_flags_of some_f some_r some_s == byte "x" then byte "9" else byte "7"))
     ≡ (if some_f then failed else (if some_r || some_s then success else skipped))
 digits_told true some_r some_s = refl
 digits_told false true some_s = refl
@@ -139,14 +139,14 @@ digit_foreign Outcome.Failed = refl
 digit_foreign Outcome.Skipped = refl
 
 no_digit_upper : (some_f some_r some_s : Bool) →
-    is_ascii_digit (if first_by_of some_f some_r some_s == byte "f" then byte "F" else (if first_by_of some_f some_r some_s == byte "r" then byte "R" else (if first_by_of some_f some_r some_s == byte "s" then byte "S" else byte "X"))) ≡ false
+    is_ascii_digit (if letter_by_flags_of some_f some_r some_s == byte "f" then byte "F" else (if letter_by_flags_of some_f some_r some_s == byte "r" then byte "R" else (if letter_by_flags_of some_f some_r some_s == byte "s" then byte "S" else byte "X"))) ≡ false
 no_digit_upper true some_r some_s = refl
 no_digit_upper false true some_s = refl
 no_digit_upper false false true = refl
 no_digit_upper false false false = refl
 
 digit_digits : (some_f some_r some_s : Bool) →
-    is_ascii_digit (if first_by_of some_f some_r some_s == byte "f" then byte "8" else (if first_by_of some_f some_r some_s == byte "x" then byte "9" else byte "7")) ≡ true
+    is_ascii_digit (if letter_by_flags_of some_f some_r some_s == byte "f" then byte "8" else (if letter_by_flags_of some_f some_r some_s == byte "x" then byte "9" else byte "7")) ≡ true
 digit_digits true some_r some_s = refl
 digit_digits false true some_s = refl
 digit_digits false false true = refl

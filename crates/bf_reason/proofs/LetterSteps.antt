@@ -15,8 +15,8 @@ use Rattle.bf_reason.specs.Reasons.{reason}
 use Rattle.bf_reason.specs.Runs.{tasks_in, tasks_before, tasks_in_run}
 use Rattle.bf_reason.specs.Settled.{before_among, seen_among, value_among}
 use Rattle.bf_reason.specs.declared.cause.StateCause.{StateCause}
-use Rattle.bf_reason.specs.Causes.{cause_of, runs_as_in}
-use Rattle.bf_reason.specs.Letters.{any_letter, ended_letter_of, expanded_digit_of, first_by_of, before_at, first_letter_of, letter_for, letter_of, upper_of}
+use Rattle.bf_reason.specs.Causes.{cause_of, runs_with_count_in}
+use Rattle.bf_reason.specs.Letters.{any_letter, ended_letter_of, expanded_digit_of, letter_by_flags_of, before_at, first_letter_of, letter_for, letter_of, uppercase_letter_of}
 
 abbrev some_has : List TaskResult → ℕ → Bool
 some_has results letter = list_any (λ ended. ended_letter_of ended.outcome ended.tries == letter) results
@@ -26,25 +26,25 @@ any_of letter [] = refl
 any_of letter (instance ∷ instances) = ap (λ rest. (ended_letter_of instance.result.outcome instance.result.tries == letter) || rest) (any_of letter instances)
 
 pub first_of : (results : List TaskResult) (instances : List InstanceReport) → results ≡ map (λ instance. instance.result) instances →
-    first_by_of (some_has results (byte "f")) (some_has results (byte "r")) (some_has results (byte "s")) ≡ first_letter_of instances
+    letter_by_flags_of (some_has results (byte "f")) (some_has results (byte "r")) (some_has results (byte "s")) ≡ first_letter_of instances
 first_of results instances is =
-    ap (λ rs. first_by_of (some_has rs (byte "f")) (some_has rs (byte "r")) (some_has rs (byte "s"))) is
-    ∙ (λ i. first_by_of (any_of (byte "f") instances i) (any_of (byte "r") instances i) (any_of (byte "s") instances i))
+    ap (λ rs. letter_by_flags_of (some_has rs (byte "f")) (some_has rs (byte "r")) (some_has rs (byte "s"))) is
+    ∙ (λ i. letter_by_flags_of (any_of (byte "f") instances i) (any_of (byte "r") instances i) (any_of (byte "s") instances i))
 
 length_map : {X Y : Type 0} (f : X → Y) (xs : List X) → length (map f xs) ≡ length xs
 length_map f [] = refl
 length_map f (x ∷ xs) = ap suc (length_map f xs)
 
 by_cause : (expanded : Bool) (cause : StateCause) (instances : List InstanceReport) →
-    (if expanded && runs_as_in cause (length instances) then upper_of (first_letter_of instances) else expanded_digit_of (first_letter_of instances)) ≡ letter_for expanded cause (TaskReport.Mapped instances)
+    (if expanded && runs_with_count_in cause (length instances) then uppercase_letter_of (first_letter_of instances) else expanded_digit_of (first_letter_of instances)) ≡ letter_for expanded cause (TaskReport.Mapped instances)
 by_cause expanded (StateCause.Runs count) instances = refl
-by_cause expanded _ instances = ap (λ (b : Bool). if b then upper_of (first_letter_of instances) else expanded_digit_of (first_letter_of instances)) (and_right expanded false refl)
+by_cause expanded _ instances = ap (λ (b : Bool). if b then uppercase_letter_of (first_letter_of instances) else expanded_digit_of (first_letter_of instances)) (and_right expanded false refl)
 
 pub mapped_by : (expanded : Bool) (cause : StateCause) (results : List TaskResult) (instances : List InstanceReport) → results ≡ map (λ instance. instance.result) instances →
     (first : ℕ) → first ≡ first_letter_of instances →
-    (if expanded && runs_as_in cause (length results) then upper_of first else expanded_digit_of first) ≡ letter_for expanded cause (TaskReport.Mapped instances)
+    (if expanded && runs_with_count_in cause (length results) then uppercase_letter_of first else expanded_digit_of first) ≡ letter_for expanded cause (TaskReport.Mapped instances)
 mapped_by expanded cause results instances is first same =
-    (λ i. if expanded && runs_as_in cause ((ap length is ∙ length_map _ instances) i) then upper_of (same i) else expanded_digit_of (same i)) ∙ by_cause expanded cause instances
+    (λ i. if expanded && runs_with_count_in cause ((ap length is ∙ length_map _ instances) i) then uppercase_letter_of (same i) else expanded_digit_of (same i)) ∙ by_cause expanded cause instances
 
 -- ---- by what a report has
 

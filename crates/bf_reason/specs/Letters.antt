@@ -23,8 +23,8 @@ abbrev pub instance_letter : InstanceReport → ℕ
 instance_letter instance = ended_letter_of instance.result.outcome instance.result.tries
 
 -- the first of f, r and s that some instance has, or else x
-abbrev pub first_by_of : Bool → Bool → Bool → ℕ
-first_by_of some_f some_r some_s =
+abbrev pub letter_by_flags_of : Bool → Bool → Bool → ℕ
+letter_by_flags_of some_f some_r some_s =
     if some_f then byte "f" else (if some_r then byte "r"
     else (if some_s then byte "s" else byte "x"))
 
@@ -33,18 +33,18 @@ any_letter letter instances = list_any (λ instance. instance_letter instance ==
 
 abbrev pub first_letter_of : List InstanceReport → ℕ
 first_letter_of instances =
-    first_by_of (any_letter (byte "f") instances) (any_letter (byte "r") instances)
+    letter_by_flags_of (any_letter (byte "f") instances) (any_letter (byte "r") instances)
     (any_letter (byte "s") instances)
 
 -- the same of an expanded task, in upper case
-abbrev pub upper_of : ℕ → ℕ
-upper_of first =
+abbrev pub uppercase_letter_of : ℕ → ℕ
+uppercase_letter_of first =
     if first == byte "f" then byte "F"
     else (if first == byte "r" then byte "R"
     else (if first == byte "s" then byte "S" else byte "X"))
 
 abbrev pub expanded_letter : List InstanceReport → ℕ
-expanded_letter instances = upper_of (first_letter_of instances)
+expanded_letter instances = uppercase_letter_of (first_letter_of instances)
 
 -- a digit for an outcome, the first for a success
 abbrev pub digit_for : ℕ → Outcome → ℕ

@@ -25,9 +25,9 @@ by_items pulled (Items.List (first ∷ rest)) =
     runs (map (λ item. record { item = Some item; pulled = pulled }) (first ∷ rest))
 
 -- of a task that goes on, by the source of its items
-abbrev pub by_source_of : Dag → (ℕ → Seen) → List (Option Xval) → Option ℕ → Reason
-by_source_of dag seen pulled None = runs (record { item = None; pulled = pulled } ∷ [])
-by_source_of dag seen pulled (Some source) =
+abbrev pub cause_by_source_of : Dag → (ℕ → Seen) → List (Option Xval) → Option ℕ → Reason
+cause_by_source_of dag seen pulled None = runs (record { item = None; pulled = pulled } ∷ [])
+cause_by_source_of dag seen pulled (Some source) =
     elim (seen source).value [
       | None ↦ waits
       | Some value ↦ by_items pulled
@@ -39,15 +39,15 @@ abbrev pub by_past : Reason → Option TaskValue → Reason
 by_past goes_on None = waits
 by_past goes_on (Some value) = if lets_pass_in value then goes_on else past_has_not_passed
 
-abbrev pub by_verdict_of : Dag → ℕ → (ℕ → Seen) → Option TaskValue → ℕ → Verdict → Reason
-by_verdict_of dag run seen before task Verdict.Wait = waits
-by_verdict_of dag run seen before task Verdict.Blocked = upstream_is_blocked
-by_verdict_of dag run seen before task Verdict.Skip = rule_skips
-by_verdict_of dag run seen before task Verdict.UpstreamFailed = rule_fails
-by_verdict_of dag run seen before task Verdict.Run =
+abbrev pub cause_by_verdict_of : Dag → ℕ → (ℕ → Seen) → Option TaskValue → ℕ → Verdict → Reason
+cause_by_verdict_of dag run seen before task Verdict.Wait = waits
+cause_by_verdict_of dag run seen before task Verdict.Blocked = upstream_is_blocked
+cause_by_verdict_of dag run seen before task Verdict.Skip = rule_skips
+cause_by_verdict_of dag run seen before task Verdict.UpstreamFailed = rule_fails
+cause_by_verdict_of dag run seen before task Verdict.Run =
     if (task_of dag task).depends_on_past && not (run == 0)
-    then by_past (by_source_of dag seen (pulled dag seen task) (task_of dag task).expand) before
-    else by_source_of dag seen (pulled dag seen task) (task_of dag task).expand
+    then by_past (cause_by_source_of dag seen (pulled dag seen task) (task_of dag task).expand) before
+    else cause_by_source_of dag seen (pulled dag seen task) (task_of dag task).expand
 
 -- the first line that decides
 unfoldable pub reason : Dag → ℕ → (ℕ → Seen) → Option TaskValue → ℕ → Reason
@@ -58,7 +58,7 @@ reason dag run seen before task =
     (seen upstream).value) (task_of dag task).upstreams then not_followed
     else (if list_any (λ upstream. branch_is dag is_blocked_in upstream (seen upstream).value)
     (task_of dag task).upstreams then branch_is_blocked
-    else by_verdict_of dag run seen before task
+    else cause_by_verdict_of dag run seen before task
     (verdict (task_of dag task).rule (counts_over seen (task_of dag task).upstreams))))
 
 -- what is decided for a reason

@@ -3,11 +3,11 @@ ghost use Rattle.std.specs.Prelude.{◌≡◌, ◌≤◌, ◌<◌, List, Option,
 ghost use Rattle.std.specs.List.{list_all, list_any};
 ghost use Rattle.bf_mapped.specs.Items.{items_of};
 ghost use Rattle.bf_mapped.specs.declared.source.SourceValues.{SourceValues};
-ghost use Rattle.bf_xcom.specs.Pulls.{pushed_of, pushed_alone_in};
+ghost use Rattle.bf_xcom.specs.Pulls.{pushed_value_of, only_pushed_value_in};
 ghost use Rattle.bf_core.specs.Deciding.{branch_is, branch_skips, counts_in, counts_over, is_blocked_in, lets_pass_in};
 ghost use Rattle.bf_core.specs.Terms.{is_failed, items, task_of, TaskResult, TaskValue, Verdict, Xval};
 ghost use Rattle.bf_reason.specs.Causes.{cause_of, item_count, past_lets_go_on_of, values_given};
-ghost use Rattle.bf_reason.specs.Reasons.{by_source_of, by_verdict_of, reason};
+ghost use Rattle.bf_reason.specs.Reasons.{cause_by_source_of, cause_by_verdict_of, reason};
 ghost use Rattle.bf_reason.specs.Settled.{before_among, seen_among, value_among};
 ghost use Rattle.bf_rule.specs.Verdicts.{total_of};
 
@@ -93,7 +93,7 @@ fn value_skips(plan: &Plan, branch: u32, task: u32, value: &TaskValue) -> bool
 }
 
 /// Whether an upstream is a branch that succeeded and doesn't follow a task.
-pub fn skips(plan: &Plan, settled: &[Settled<'_>], upstream: u32, task: u32) -> bool
+pub fn is_skipping_branch(plan: &Plan, settled: &[Settled<'_>], upstream: u32, task: u32) -> bool
     requires { task < length plan.now.dag.tasks }
     ensures { result ≡ branch_is plan.now.dag (branch_skips plan.now.dag task upstream) upstream
         (Some (value_among settled.now upstream)) }
@@ -124,14 +124,12 @@ pub fn is_blocked_branch(dag: &Dag, settled: &[Settled<'_>], upstream: u32) -> b
     dag.is_branch(upstream) && is_blocked(settled, upstream)
 }
 
-fn any_skips(plan: &Plan, settled: &[Settled<'_>], task: u32, upstreams: &[u32]) -> bool
+fn has_skipping_branch(plan: &Plan, settled: &[Settled<'_>], task: u32, upstreams: &[u32]) -> bool
     requires { task < length plan.now.dag.tasks }
     ensures { result ≡ list_any (λ u. branch_is plan.now.dag (branch_skips plan.now.dag task u) u
         (Some (value_among settled.now u))) upstreams.now }
 {
-    upstreams
-        .iter()
-        .any(|upstream| skips(plan, settled, *upstream, task))
+    upstreams.iter().any(|upstream| is_skipping_branch(plan, settled, *upstream, task))
 }
 
 fn any_is_blocked_branch(plan: &Plan, settled: &[Settled<'_>], upstreams: &[u32]) -> bool
@@ -198,7 +196,7 @@ pub fn is_expanded(dag: &Dag, task: u32) -> bool
 }
 
 fn count_pushed(results: &[TaskResult]) -> usize
-    ensures { result ≡ length (filter (λ ended. is_some (pushed_of ended)) results.now) }
+    ensures { result ≡ length (filter (λ ended. is_some (pushed_value_of ended)) results.now) }
 {
     results
         .iter()
@@ -208,7 +206,7 @@ fn count_pushed(results: &[TaskResult]) -> usize
 
 /// How many items the list has that an unmapped source pushed.
 fn count_listed(results: &[TaskResult]) -> Option<usize>
-    ensures { result ≡ item_count (items_of (SourceValues.Pushed (pushed_alone_in results.now))) }
+    ensures { result ≡ item_count (items_of (SourceValues.Pushed (only_pushed_value_in results.now))) }
 {
     let [first, ..] = results else {
         return None;
@@ -254,9 +252,9 @@ fn count_items(dag: &Dag, settled: &[Settled<'_>], source: u32) -> Option<usize>
 }
 
 /// Of a task that goes on, by the source of its items.
-fn by_source(dag: &Dag, settled: &[Settled<'_>], expand: Option<u32>) -> StateCause
+fn cause_by_source(dag: &Dag, settled: &[Settled<'_>], expand: Option<u32>) -> StateCause
     ensures { (pulled : List (Option Xval)) →
-        result ≡ cause_of (by_source_of dag.now (seen_among settled.now) pulled expand) }
+        result ≡ cause_of (cause_by_source_of dag.now (seen_among settled.now) pulled expand) }
 {
     let Some(source) = expand else {
         return StateCause::Runs(1);
@@ -269,7 +267,7 @@ fn by_source(dag: &Dag, settled: &[Settled<'_>], expand: Option<u32>) -> StateCa
 }
 
 /// Of a task that its rule lets run.
-fn by_past(
+fn cause_by_past(
     dag: &Dag,
     run: usize,
     settled: &[Settled<'_>],
@@ -277,19 +275,19 @@ fn by_past(
     number: u32,
 ) -> StateCause
     requires { number < length dag.now.tasks }
-    ensures { result ≡ cause_of (by_verdict_of dag.now run (seen_among settled.now)
+    ensures { result ≡ cause_of (cause_by_verdict_of dag.now run (seen_among settled.now)
         (before_among before.now run number) number Verdict.Run) }
 {
     let task = dag.task(number);
     if past_lets_go_on(task, run, before, number) {
-        by_source(dag, settled, task.expand)
+        cause_by_source(dag, settled, task.expand)
     } else {
         StateCause::PastHasNotPassed
     }
 }
 
 /// Of a task on which its rule has this verdict.
-fn by_verdict(
+fn cause_by_verdict(
     dag: &Dag,
     run: usize,
     settled: &[Settled<'_>],
@@ -298,7 +296,7 @@ fn by_verdict(
     verdict: Verdict,
 ) -> StateCause
     requires { number < length dag.now.tasks }
-    ensures { result ≡ cause_of (by_verdict_of dag.now run (seen_among settled.now)
+    ensures { result ≡ cause_of (cause_by_verdict_of dag.now run (seen_among settled.now)
         (before_among before.now run number) number verdict) }
 {
     match verdict {
@@ -306,7 +304,7 @@ fn by_verdict(
         Verdict::Blocked => StateCause::UpstreamIsBlocked,
         Verdict::Skip => StateCause::RuleSkips,
         Verdict::UpstreamFailed => StateCause::RuleFails,
-        Verdict::Run => by_past(dag, run, settled, before, number),
+        Verdict::Run => cause_by_past(dag, run, settled, before, number),
     }
 }
 
@@ -334,7 +332,7 @@ pub fn cause_at(
 {
     let decided = task_in(plan, task);
     let upstreams = decided.upstreams.as_slice();
-    if any_skips(plan, settled, task, upstreams) {
+    if has_skipping_branch(plan, settled, task, upstreams) {
         return StateCause::NotFollowed;
     }
     if any_is_blocked_branch(plan, settled, upstreams) {
@@ -342,5 +340,5 @@ pub fn cause_at(
     }
     let counts = counts_of_upstreams(settled, upstreams);
     let verdict = verdict(decided.rule, &counts);
-    by_verdict(plan.dag(), run, settled, before, task, verdict)
+    cause_by_verdict(plan.dag(), run, settled, before, task, verdict)
 }

@@ -1,8 +1,8 @@
 //! The letter of a task in a run, which tells its state and why it has that.
 ghost use Rattle.std.specs.Prelude.{◌≡◌, ◌<◌, ◌==◌, Bool, List, length, map};
 ghost use Rattle.std.specs.List.{list_any};
-ghost use Rattle.bf_reason.specs.Causes.{runs_as_in};
-ghost use Rattle.bf_reason.specs.Letters.{ended_letter_of, expanded_digit_of, first_by_of, first_letter_of, letter_for, letter_of, upper_of};
+ghost use Rattle.bf_reason.specs.Causes.{runs_with_count_in};
+ghost use Rattle.bf_reason.specs.Letters.{ended_letter_of, expanded_digit_of, letter_by_flags_of, first_letter_of, letter_for, letter_of, uppercase_letter_of};
 ghost use Rattle.bf_reason.specs.Runs.{tasks_in, tasks_before};
 ghost use Rattle.bf_report.specs.declared.report.InstanceReport.{InstanceReport};
 ghost use Rattle.bf_report.specs.declared.report.TaskReport.{TaskReport};
@@ -27,7 +27,7 @@ pub fn ended_letter(ended: &TaskResult) -> u8
     }
 }
 
-fn some_has(results: &[TaskResult], letter: u8) -> bool
+fn some_has_letter(results: &[TaskResult], letter: u8) -> bool
     ensures { result ≡ list_any (λ ended. ended_letter_of ended.outcome ended.tries == letter)
         results.now }
 {
@@ -35,8 +35,8 @@ fn some_has(results: &[TaskResult], letter: u8) -> bool
 }
 
 /// The first of f, r and s that some instance has, or else x.
-fn first_by(some_f: bool, some_r: bool, some_s: bool) -> u8
-    ensures letter { result ≡ first_by_of some_f some_r some_s }
+fn letter_by_flags(some_f: bool, some_r: bool, some_s: bool) -> u8
+    ensures letter { result ≡ letter_by_flags_of some_f some_r some_s }
     ensures ascii { result < 128 }
 {
     match (some_f, some_r, some_s) {
@@ -53,15 +53,15 @@ fn first_letter(results: &[TaskResult]) -> u8
         result ≡ first_letter_of instances }
     ensures ascii { result < 128 }
 {
-    first_by(
-        some_has(results, b'f'),
-        some_has(results, b'r'),
-        some_has(results, b's'),
+    letter_by_flags(
+        some_has_letter(results, b'f'),
+        some_has_letter(results, b'r'),
+        some_has_letter(results, b's'),
     )
 }
 
-fn upper(first: u8) -> u8
-    ensures letter { result ≡ upper_of first }
+fn uppercase_letter(first: u8) -> u8
+    ensures letter { result ≡ uppercase_letter_of first }
     ensures ascii { result < 128 }
 {
     match first {
@@ -135,8 +135,8 @@ fn ran_letter(is_expanded: bool, cause: StateCause, ended: &TaskResult) -> u8
     }
 }
 
-fn runs_as(cause: StateCause, count: usize) -> bool
-    ensures { result ≡ runs_as_in cause count }
+fn runs_with_count(cause: StateCause, count: usize) -> bool
+    ensures { result ≡ runs_with_count_in cause count }
 {
     match cause {
         StateCause::Runs(instances) => count == instances,
@@ -152,8 +152,8 @@ fn mapped_letter(is_expanded: bool, cause: StateCause, results: &[TaskResult]) -
     ensures ascii { result < 128 }
 {
     let first = first_letter(results);
-    if is_expanded && runs_as(cause, results.len()) {
-        upper(first)
+    if is_expanded && runs_with_count(cause, results.len()) {
+        uppercase_letter(first)
     } else {
         expanded_digit(first)
     }
@@ -164,7 +164,7 @@ pub fn letter_by(is_expanded: bool, cause: StateCause, settled: &Settled<'_>) ->
     ensures letter { result ≡ letter_for is_expanded cause settled.now }
     ensures ascii { result < 128 }
 {
-    match (settled.told(), settled.results()) {
+    match (settled.task_report(), settled.results()) {
         (TaskReport::NoStatus, _) => no_status_letter(cause),
         (TaskReport::Skipped, _) => skipped_letter(cause),
         (TaskReport::UpstreamFailed, _) => upstream_failed_letter(cause),

@@ -99,7 +99,7 @@ impl<'a> Settled<'a> {
     }
 
     /// What the report has.
-    pub fn told(&self) -> &TaskReport
+    pub fn task_report(&self) -> &TaskReport
         ensures { result.now ≡ self.now }
     {
         self.told

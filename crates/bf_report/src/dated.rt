@@ -16,7 +16,7 @@ use bf_value::{OutOfMemory, Sequence, Text};
 use bf_xcom::RunState;
 use std::alloc::Global;
 
-fn reported_of(is_expanded: bool, mut instances: Vec<InstanceReport>) -> TaskReport
+fn task_report_of(is_expanded: bool, mut instances: Vec<InstanceReport>) -> TaskReport
     ensures report { result ≡ reported_instances is_expanded instances.items }
     ensures sound { AreSoundInstances instances.items → IsSoundTask result }
 {
@@ -42,7 +42,7 @@ fn task_report(alloc: Global, dag: &Dag, task: u32, cell: &Cell) -> Result<TaskR
         Cell::UpstreamFailed => Ok(TaskReport::UpstreamFailed),
         Cell::Ran(instances) => {
             let instances = instance_reports(alloc, dag, task, instances.as_slice())?;
-            Ok(reported_of(dag.task(task).expand.is_some(), instances))
+            Ok(task_report_of(dag.task(task).expand.is_some(), instances))
         }
     }
 }

@@ -14,11 +14,11 @@ use bf_xcom::{Outcome, Pulled, TaskResult};
 use std::alloc::Global;
 
 /// What a pushed value's numbers and texts are is known to their types.
-fn known(outcome: &Outcome)
+fn outcome_is_sound(outcome: &Outcome)
     ensures { IsSoundOutcome outcome.now }
 {
     if let Outcome::Success(Some(value)) = outcome {
-        value.known();
+        value.value_is_sound();
     }
 }
 
@@ -27,7 +27,7 @@ fn result_of(alloc: Global, outcome: &Outcome, tries: u32) -> Result<TaskResult,
     ensures result { IfOk result (λ r. r ≡ record { outcome = outcome.now; tries = tries }) }
     ensures sound { IfOk result (λ r. IsSoundOutcome r.outcome) }
 {
-    known(outcome);
+    outcome_is_sound(outcome);
     Ok(TaskResult {
         outcome: outcome.copy(alloc)?,
         tries,
@@ -39,7 +39,7 @@ fn copy_of(alloc: Global, value: &Option<Xval>) -> Result<Option<Xval>, OutOfMem
     ensures sound { IfOk result IsSoundValue }
 {
     if let Some(value) = value {
-        value.known();
+        value.value_is_sound();
     }
     copy_option(alloc, value.as_ref())
 }
@@ -50,7 +50,7 @@ fn share_of(pulled: &Pulled) -> Result<Pulled, OutOfMemory>
     ensures sound { IfOk result IsSoundValue }
 {
     if let Some(value) = pulled.get() {
-        value.known();
+        value.value_is_sound();
     }
     pulled.share()
 }

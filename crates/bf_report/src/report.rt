@@ -43,7 +43,7 @@ enum Kept {
 
 impl Kept {
     #[inline(always)]
-    fn told(
+    fn new(
         alloc: Global,
         outcome: Outcome,
         item: Option<Xval>,
@@ -102,7 +102,7 @@ impl InstanceReport {
 
     /// An instance that was given nothing, as far as is known.
     #[inline(always)]
-    pub fn bare(alloc: Global, ended: TaskResult) -> Result<InstanceReport, OutOfMemory>
+    pub fn new_bare(alloc: Global, ended: TaskResult) -> Result<InstanceReport, OutOfMemory>
         ensures { IfOk result (λ instance. instance
             ≡ record { result = ended; item = None; pulls = [] }) }
     {
@@ -113,7 +113,7 @@ impl InstanceReport {
             Outcome::Skipped => Kept::Skipped,
             Outcome::Success(Some(value)) => {
                 let outcome = Outcome::Success(Some(value));
-                Kept::told(alloc, outcome, None, Sequence::new(alloc))?
+                Kept::new(alloc, outcome, None, Sequence::new(alloc))?
             }
         };
         Ok(InstanceReport { tries, kept })
@@ -130,10 +130,10 @@ impl InstanceReport {
             ≡ record { result = ended; item = item; pulls = pulls }) }
     {
         if item.is_none() && pulls.is_empty() {
-            return InstanceReport::bare(alloc, ended);
+            return InstanceReport::new_bare(alloc, ended);
         }
         let TaskResult { outcome, tries } = ended;
-        let kept = Kept::told(alloc, outcome, item, pulls)?;
+        let kept = Kept::new(alloc, outcome, item, pulls)?;
         Ok(InstanceReport { tries, kept })
     }
 
@@ -216,7 +216,7 @@ impl InstanceReport {
             return Ok(());
         }
         let TaskResult { outcome, .. } = self.result(alloc)?;
-        self.kept = Kept::told(alloc, outcome, Some(item), Sequence::new(alloc))?;
+        self.kept = Kept::new(alloc, outcome, Some(item), Sequence::new(alloc))?;
         Ok(())
     }
 
@@ -230,7 +230,7 @@ impl InstanceReport {
         let mut pulls = Sequence::new(alloc);
         pulls.push(pull)?;
         let TaskResult { outcome, .. } = self.result(alloc)?;
-        self.kept = Kept::told(alloc, outcome, None, pulls)?;
+        self.kept = Kept::new(alloc, outcome, None, pulls)?;
         Ok(())
     }
 }

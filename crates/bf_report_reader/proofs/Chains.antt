@@ -3,7 +3,7 @@ use Rattle.std.proofs.Common.{◌≡◌, ◌≤◌, ◌<◌, ℕ, zero, suc, ◌
 use Rattle.std.proofs.lemmas.List.{append_cancel_left}
 use Rattle.bf_report.specs.declared.report.Report.{Report}
 use Rattle.bf_report.specs.Report.{line, report_text}
-use Rattle.bf_report_reader.specs.declared.beginning.Beginning.{Beginning}
+use Rattle.bf_report_reader.specs.declared.beginning.ReportSoFar.{ReportSoFar}
 use Rattle.bf_report_reader.specs.Rules.{IsRuled, IsShownReport}
 use Rattle.bf_report_reader.specs.Faults.{IsInLine, longest_line, Begins, IsReportText}
 use Rattle.bf_report_reader.specs.Beginning.{runs_of, is_whole_at, so_far, opening_text, IsCounted, IsSmall, room}
@@ -15,15 +15,15 @@ use Rattle.bf_report_reader.proofs.StepFacts.{follows_next}
 use Rattle.bf_report_reader.proofs.Lines.{follows_once, end_once, stands_in_line, stands_short}
 
 -- what is known of a beginning
-pub record Keeps (b : Beginning) : Type 0 where
+pub record Keeps (b : ReportSoFar) : Type 0 where
   pub counted : IsCounted b
   pub small : IsSmall b
   pub ruled : IsRuled b
 
-pub keeps_next : (b c : Beginning) (text : List ℕ) → IsNext b text c → Keeps c
+pub keeps_next : (b c : ReportSoFar) (text : List ℕ) → IsNext b text c → Keeps c
 keeps_next b c text next = record { counted = next.counted; small = next.small; ruled = next.ruled }
 
-next_of : (b c : Beginning) (text : List ℕ) → Keeps b → Follows b text c → IsNext b text c
+next_of : (b c : ReportSoFar) (text : List ℕ) → Keeps b → Follows b text c → IsNext b text c
 next_of b c text keeps follows = follows_next b c text keeps.counted keeps.small keeps.ruled follows
 
 -- ---- texts
@@ -34,8 +34,8 @@ end_of r = line (codes "@end" ∷ decimal (length r.runs) ∷ [])
 report_opens : (r : Report) → report_text r ≡ opening_text r ++ end_of r
 report_opens r = refl
 
-leads_text : (n : ℕ) (b last : Beginning) → Keeps b → Leads n b last → (more : List ℕ) × (opening_text (so_far last) ≡ opening_text (so_far b) ++ more)
-leads_text zero b last keeps same = ([], ap (λ (x : Beginning). opening_text (so_far x)) (sym same) ∙ sym (append-nil (opening_text (so_far b))))
+leads_text : (n : ℕ) (b last : ReportSoFar) → Keeps b → Leads n b last → (more : List ℕ) × (opening_text (so_far last) ≡ opening_text (so_far b) ++ more)
+leads_text zero b last keeps same = ([], ap (λ (x : ReportSoFar). opening_text (so_far x)) (sym same) ∙ sym (append-nil (opening_text (so_far b))))
 leads_text (suc n) b last keeps (text, next, follows, leads) =
     let step = next_of b next text keeps follows in
     let (more, is) = leads_text n next last (keeps_next b next text step) leads in
@@ -53,18 +53,18 @@ pub record GoesOn (opening : List ℕ) (report : Report) (Stands : List ℕ → 
   pub stands : Stands next
 
 -- the line stands next, and the report goes on from it or ends by it
-pub record IsNextOf (b : Beginning) (report : Report) (text : List ℕ) : Type 0 where
+pub record IsNextOf (b : ReportSoFar) (report : Report) (text : List ℕ) : Type 0 where
   pub stands : MayStand b text
-  pub onward : (c : Beginning) → Follows b text c → Extends c report
+  pub onward : (c : ReportSoFar) → Follows b text c → Extends c report
   pub done : MayEnd b text → so_far b ≡ report
 
-pub goes_on : (b : Beginning) (report : Report) → Keeps b → Extends b report → GoesOn (opening_text (so_far b)) report (IsNextOf b report)
+pub goes_on : (b : ReportSoFar) (report : Report) → Keeps b → Extends b report → GoesOn (opening_text (so_far b)) report (IsNextOf b report)
 goes_on b report keeps extends = go extends.lines extends.leads
   where
     go : (n : ℕ) → Leads n b extends.last → GoesOn (opening_text (so_far b)) report (IsNextOf b report)
     go zero same =
         let is : so_far b ≡ report = ap so_far same ∙ extends.is in
-        let ends : MayEnd b (codes "@end" ++ 32 ∷ decimal (length (runs_of b))) = (refl, subst (λ (x : Beginning). is_whole_at x ≡ true) (sym same) extends.whole) in
+        let ends : MayEnd b (codes "@end" ++ 32 ∷ decimal (length (runs_of b))) = (refl, subst (λ (x : ReportSoFar). is_whole_at x ≡ true) (sym same) extends.whole) in
         record {
           next = codes "@end" ++ 32 ∷ decimal (length (runs_of b));
           more = [];
@@ -87,7 +87,7 @@ goes_on b report keeps extends = go extends.lines extends.leads
           short = stands_short b text keeps.ruled (inl (next, follows));
           stands = record {
             stands = inl (next, follows);
-            onward = λ c other. subst (λ (x : Beginning). Extends x report) (follows_once b next c text keeps.ruled follows other) on;
+            onward = λ c other. subst (λ (x : ReportSoFar). Extends x report) (follows_once b next c text keeps.ruled follows other) on;
             done = λ ends. absurd (end_once b next text keeps.ruled follows ends);
           };
         }
@@ -127,10 +127,10 @@ not_yet opening Stands goes whole =
 
 -- ---- as far as it was read
 
-pub known_goes : (b : Beginning) → Keeps b → IsKnown b → Goes (opening_text (so_far b)) (IsNextOf b)
+pub known_goes : (b : ReportSoFar) → Keeps b → IsKnown b → Goes (opening_text (so_far b)) (IsNextOf b)
 known_goes b keeps known report more shown is = goes_on b report keeps (known report more shown is)
 
-pub known_next : (b c : Beginning) (text : List ℕ) → Keeps b → IsKnown b → IsNext b text c → IsKnown c
+pub known_next : (b c : ReportSoFar) (text : List ℕ) → Keeps b → IsKnown b → IsNext b text c → IsKnown c
 known_next b c text keeps known next report more shown is =
     let opening = opening_text (so_far b) in
     let same : report_text report ≡ opening ++ ((text ++ 10 ∷ []) ++ more) = is ∙ ap (λ l. l ++ more) next.read ∙ append_assoc opening (text ++ 10 ∷ []) more in
@@ -141,7 +141,7 @@ known_next b c text keeps known next report more shown is =
 -- ---- two reports
 
 -- from one beginning there is one report to a text, whatever follows it
-pub one_report : (fuel : ℕ) (b : Beginning) (one two : Report) (more : List ℕ) → room b < fuel → Keeps b → Extends b one → Extends b two → report_text two ≡ report_text one ++ more → one ≡ two
+pub one_report : (fuel : ℕ) (b : ReportSoFar) (one two : Report) (more : List ℕ) → room b < fuel → Keeps b → Extends b one → Extends b two → report_text two ≡ report_text one ++ more → one ≡ two
 one_report zero b one two more less keeps first second is = absurd (omega (arith, less))
 one_report (suc fuel) b one two more less keeps first second is =
     let opening = opening_text (so_far b) in

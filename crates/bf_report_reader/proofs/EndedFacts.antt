@@ -21,7 +21,7 @@ use Rattle.bf_xcom.specs.declared.values.Outcome.{Outcome}
 use Rattle.bf_xcom.specs.declared.values.Outcome.TheVariants.{Success, Failed, Skipped}
 use Rattle.bf_xcom.specs.declared.values.TaskResult.{TaskResult}
 use Rattle.bf_xcom.specs.declared.values.TaskValue.{TaskValue}
-use Rattle.bf_try.specs.Grades.{fits_in, is_value_of_lines_in, may_push_in, is_short_in}
+use Rattle.bf_try.specs.Grades.{fits_in, is_readable_from_line_in, may_push_in, is_short_value_in}
 use Rattle.bf_try.specs.Tries.{Ledger, result_of, outcome_at, last_try, is_failed}
 use Rattle.bf_core.specs.declared.event.Event.{Event}
 use Rattle.bf_core.specs.declared.state.State.{State}
@@ -29,7 +29,7 @@ use Rattle.bf_core.specs.declared.state.Cell.{Cell}
 use Rattle.bf_core.specs.declared.state.Instance.{Instance}
 use Rattle.bf_core.specs.Terms.{Limits, Verdict, items}
 use Rattle.bf_core.specs.declared.decision.Decision.{Decision}
-use Rattle.bf_core.specs.Deciding.{Seen, settled, decision, after_verdict, instances_of, mapped, pulled, gate_of}
+use Rattle.bf_core.specs.Deciding.{Seen, settled, decision, after_verdict, instances_of, mapped, pulled, task_verdict_of}
 use Rattle.bf_core.specs.Recursion.{out, before, decided, results_from}
 use Rattle.bf_core.specs.Events.{IsLegal, replay, after, start, cell_at, value_in, entry_in, results}
 use Rattle.bf_core.specs.Agreement.{IsOutcome, final_cell, finished_from}
@@ -58,7 +58,7 @@ run_interval i is = record { start = report_moment i.start is.start; end = repor
 -- ---- values
 
 -- what fits, with sound numbers and texts, is a value that lines have
-shown_value : (x : Xval) → IsSound (plain_of x) → is_value_of_lines_in (Some x) ≡ true → is_short_in (Some x) ≡ true → IsShownValue x
+shown_value : (x : Xval) → IsSound (plain_of x) → is_readable_from_line_in (Some x) ≡ true → is_short_value_in (Some x) ≡ true → IsShownValue x
 shown_value (Flag b) sound good short = record { utf8 = IsUtf8-text_of (Flag b) sound; pushed = value_of_line_text_of (Flag b) sound (omega arith) (λ e. cc e); short = grind (arith, nat_tests, short) }
 shown_value (Int n) sound good short = record { utf8 = IsUtf8-text_of (Int n) sound; pushed = value_of_line_text_of (Int n) sound (omega arith) (λ e. cc e); short = grind (arith, nat_tests, short) }
 shown_value (Text t) sound good short = record { utf8 = IsUtf8-text_of (Text t) sound; pushed = value_of_line_text_of (Text t) sound (omega arith) (λ e. cc e); short = grind (arith, nat_tests, short) }
@@ -69,8 +69,8 @@ pub shown_outcome : (dag : Dag) (t : ℕ) (o : Outcome) → IsSoundOutcome o →
 unfolding fits_in
 shown_outcome dag t (Success None) sound fit = tt
 shown_outcome dag t (Success (Some x)) sound fit =
-    let (line, push) = and_parts (is_value_of_lines_in (Some x)) (may_push_in dag t (Some x)) fit in
-    shown_value x sound line (and_parts (is_short_in (Some x)) _ push).0
+    let (line, push) = and_parts (is_readable_from_line_in (Some x)) (may_push_in dag t (Some x)) fit in
+    shown_value x sound line (and_parts (is_short_value_in (Some x)) _ push).0
 shown_outcome dag t Failed sound fit = tt
 shown_outcome dag t Skipped sound fit = tt
 
@@ -120,7 +120,7 @@ some_instances dag seen pulls (Some source) gs e expanded = go (seen source).val
 
 some_decided : (dag : Dag) (k : ℕ) (seen : ℕ → Seen) (before : Option TaskValue) (t : ℕ) (gs : List Given) → decision dag k seen before t ≡ Decision.Instances gs → is_some (task_of dag t).expand ≡ true → 1 ≤ length gs
 unfolding decision
-some_decided dag k seen before t gs e expanded = go (gate_of dag k seen before t) e
+some_decided dag k seen before t gs e expanded = go (task_verdict_of dag k seen before t) e
   where
     go : (v : Verdict) → after_verdict dag seen t v ≡ Decision.Instances gs → 1 ≤ length gs
     go Verdict.Wait e = absurd (cc e)
@@ -205,7 +205,7 @@ given_instances dag value pulls (Some source) gs source_fits e =
 given_decided : (dag : Dag) (k : ℕ) (value : ℕ → TaskValue) (before : Option TaskValue) (t : ℕ) (gs : List Given) → ((source : ℕ) → (task_of dag t).expand ≡ Some source → FitsValue dag source (value source))
     → decision dag k (λ u. settled (value u)) before t ≡ Decision.Instances gs → AllByRecursion (IsGivenSo (is_some (task_of dag t).expand) (pulled dag (λ u. settled (value u)) t)) gs
 unfolding decision
-given_decided dag k value before t gs source_fits e = go (gate_of dag k (λ u. settled (value u)) before t) e
+given_decided dag k value before t gs source_fits e = go (task_verdict_of dag k (λ u. settled (value u)) before t) e
   where
     go : (v : Verdict) → after_verdict dag (λ u. settled (value u)) t v ≡ Decision.Instances gs → AllByRecursion (IsGivenSo (is_some (task_of dag t).expand) (pulled dag (λ u. settled (value u)) t)) gs
     go Verdict.Wait e = absurd (cc e)

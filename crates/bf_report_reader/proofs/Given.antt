@@ -21,8 +21,8 @@ use Rattle.bf_xcom.specs.declared.values.Outcome.{Outcome}
 use Rattle.bf_xcom.specs.declared.values.Outcome.TheVariants.{Success, Failed, Skipped}
 use Rattle.bf_xcom.specs.declared.values.TaskResult.{TaskResult}
 use Rattle.bf_xcom.specs.declared.values.TaskValue.{TaskValue}
-use Rattle.bf_xcom.specs.Pulls.{pushed_by, pushed_of, pushed_alone_in, all_pushed_in, pull_of, items}
-use Rattle.bf_try.specs.Grades.{fits_in, is_value_of_lines_in, may_push_in, is_short_in}
+use Rattle.bf_xcom.specs.Pulls.{pushed_by, pushed_value_of, only_pushed_value_in, pushed_values_in, pull_of, items}
+use Rattle.bf_try.specs.Grades.{fits_in, is_readable_from_line_in, may_push_in, is_short_value_in}
 use Rattle.bf_report.specs.Values.{IsSoundValue}
 use Rattle.bf_report_reader.specs.Parts.{IsToldValue, IsToldPulled}
 
@@ -40,7 +40,7 @@ told_value n m x few sound sized = record { utf8 = IsUtf8-text_of x sound; says 
 abbrev pub IsPushed : Xval → Type 0
 IsPushed x = IsSized 64 65_536 x
 
-line_sized : (x : Xval) → is_value_of_lines_in (Some x) ≡ true → is_short_in (Some x) ≡ true → IsPushed x × (x ≢ Nil)
+line_sized : (x : Xval) → is_readable_from_line_in (Some x) ≡ true → is_short_value_in (Some x) ≡ true → IsPushed x × (x ≢ Nil)
 line_sized (Flag b) line short = (record { deep = omega arith; short = grind (arith, nat_tests, short) }, λ e. cc e)
 line_sized (Int n) line short = (record { deep = omega arith; short = grind (arith, nat_tests, short) }, λ e. cc e)
 line_sized (Text t) line short = (record { deep = omega arith; short = grind (arith, nat_tests, short) }, λ e. cc e)
@@ -50,8 +50,8 @@ line_sized Nil line short = absurd (cc line)
 pushed_sized : (dag : Dag) (u : ℕ) (x : Xval) → fits_in dag u (Success (Some x)) ≡ true → IsPushed x × (x ≢ Nil)
 unfolding fits_in
 pushed_sized dag u x fit =
-    let (line, push) = and_parts (is_value_of_lines_in (Some x)) (may_push_in dag u (Some x)) fit in
-    line_sized x line (and_parts (is_short_in (Some x)) _ push).0
+    let (line, push) = and_parts (is_readable_from_line_in (Some x)) (may_push_in dag u (Some x)) fit in
+    line_sized x line (and_parts (is_short_value_in (Some x)) _ push).0
 
 -- ---- lists
 
@@ -99,23 +99,23 @@ FitsValue dag u TaskValue.Skipped = Unit {0}
 FitsValue dag u TaskValue.UpstreamFailed = Unit {0}
 FitsValue dag u (TaskValue.Ran rs) = (length rs ≤ 1_024) × AreFittingResults dag u rs
 
-one_pushed : (dag : Dag) (u : ℕ) (o : Outcome) (n : ℕ) (rs : List TaskResult) → fits_in dag u o ≡ true → AllByRecursion IsPushed (all_pushed_in rs) → AllByRecursion IsPushed (all_pushed_in (record { outcome = o; tries = n } ∷ rs))
+one_pushed : (dag : Dag) (u : ℕ) (o : Outcome) (n : ℕ) (rs : List TaskResult) → fits_in dag u o ≡ true → AllByRecursion IsPushed (pushed_values_in rs) → AllByRecursion IsPushed (pushed_values_in (record { outcome = o; tries = n } ∷ rs))
 one_pushed dag u (Success None) n rs fit each = each
 one_pushed dag u (Success (Some x)) n rs fit each = ((pushed_sized dag u x fit).0, each)
 one_pushed dag u Failed n rs fit each = each
 one_pushed dag u Skipped n rs fit each = each
 
-pushed_each : (dag : Dag) (u : ℕ) (rs : List TaskResult) → AreFittingResults dag u rs → AllByRecursion IsPushed (all_pushed_in rs)
+pushed_each : (dag : Dag) (u : ℕ) (rs : List TaskResult) → AreFittingResults dag u rs → AllByRecursion IsPushed (pushed_values_in rs)
 pushed_each dag u [] fit = tt
 pushed_each dag u (r ∷ rs) fit = one_pushed dag u r.outcome r.tries rs fit.0 (pushed_each dag u rs fit.1)
 
-one_fewer : (o : Outcome) (n : ℕ) (rs : List TaskResult) → length (all_pushed_in rs) ≤ length rs → length (all_pushed_in (record { outcome = o; tries = n } ∷ rs)) ≤ suc (length rs)
+one_fewer : (o : Outcome) (n : ℕ) (rs : List TaskResult) → length (pushed_values_in rs) ≤ length rs → length (pushed_values_in (record { outcome = o; tries = n } ∷ rs)) ≤ suc (length rs)
 one_fewer (Success None) n rs few = omega (arith, few)
 one_fewer (Success (Some x)) n rs few = omega (arith, few)
 one_fewer Failed n rs few = omega (arith, few)
 one_fewer Skipped n rs few = omega (arith, few)
 
-few_pushed : (rs : List TaskResult) → length (all_pushed_in rs) ≤ length rs
+few_pushed : (rs : List TaskResult) → length (pushed_values_in rs) ≤ length rs
 few_pushed [] = omega arith
 few_pushed (r ∷ rs) = one_fewer r.outcome r.tries rs (few_pushed rs)
 
@@ -125,9 +125,9 @@ one_item dag u (Success (Some x)) vs fit each = ((pushed_sized dag u x fit).0, e
 one_item dag u Failed vs fit each = each
 one_item dag u Skipped vs fit each = each
 
-items_each : (dag : Dag) (u : ℕ) (rs : List TaskResult) → AreFittingResults dag u rs → AllByRecursion IsPushed (filter_map (λ v. v) (map pushed_of rs))
+items_each : (dag : Dag) (u : ℕ) (rs : List TaskResult) → AreFittingResults dag u rs → AllByRecursion IsPushed (filter_map (λ v. v) (map pushed_value_of rs))
 items_each dag u [] fit = tt
-items_each dag u (r ∷ rs) fit = one_item dag u r.outcome (map pushed_of rs) fit.0 (items_each dag u rs fit.1)
+items_each dag u (r ∷ rs) fit = one_item dag u r.outcome (map pushed_value_of rs) fit.0 (items_each dag u rs fit.1)
 
 -- ---- pulls
 
@@ -146,9 +146,9 @@ pulled_told dag u TaskValue.Skipped fit sound = tt
 pulled_told dag u TaskValue.UpstreamFailed fit sound = tt
 pulled_told dag u (TaskValue.Ran rs) fit sound = go (is_some (task_of dag u).expand) rs fit sound
   where
-    go : (b : Bool) (rs : List TaskResult) → (length rs ≤ 1_024) × AreFittingResults dag u rs → IsSoundValue (if b then Some (list_of (all_pushed_in rs)) else pushed_alone_in rs) → IsToldPulled (if b then Some (list_of (all_pushed_in rs)) else pushed_alone_in rs)
+    go : (b : Bool) (rs : List TaskResult) → (length rs ≤ 1_024) × AreFittingResults dag u rs → IsSoundValue (if b then Some (list_of (pushed_values_in rs)) else only_pushed_value_in rs) → IsToldPulled (if b then Some (list_of (pushed_values_in rs)) else only_pushed_value_in rs)
     go true rs fit sound =
-        (told_value 65 67_109_889 (list_of (all_pushed_in rs)) (omega arith) sound (list_sized (all_pushed_in rs) (pushed_each dag u rs fit.1) (omega (arith, fit.0, few_pushed rs))), λ e. cc e)
+        (told_value 65 67_109_889 (list_of (pushed_values_in rs)) (omega arith) sound (list_sized (pushed_values_in rs) (pushed_each dag u rs fit.1) (omega (arith, fit.0, few_pushed rs))), λ e. cc e)
     go false [] fit sound = tt
     go false (r ∷ rs) fit sound = alone_told dag u r.outcome fit.1.0 sound
 
@@ -177,7 +177,7 @@ items_pushed dag u TaskValue.Skipped xs fit is = absurd (cc is)
 items_pushed dag u TaskValue.UpstreamFailed xs fit is = absurd (cc is)
 items_pushed dag u (TaskValue.Ran rs) xs fit is = go (is_some (task_of dag u).expand) rs fit.1 is
   where
-    go : (b : Bool) (rs : List TaskResult) → AreFittingResults dag u rs → items_of (if b then SourceValues.Each (map pushed_of rs) else SourceValues.Pushed (pushed_alone_in rs)) ≡ Items.List xs → AllByRecursion IsPushed xs
+    go : (b : Bool) (rs : List TaskResult) → AreFittingResults dag u rs → items_of (if b then SourceValues.Each (map pushed_value_of rs) else SourceValues.Pushed (only_pushed_value_in rs)) ≡ Items.List xs → AllByRecursion IsPushed xs
     go true rs fit is = subst (AllByRecursion IsPushed) (ap list_in is) (items_each dag u rs fit)
     go false [] fit is = absurd (cc is)
     go false (r ∷ rs) fit is = alone_items dag u r.outcome xs fit.0 is

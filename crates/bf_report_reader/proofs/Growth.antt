@@ -22,11 +22,11 @@ use Rattle.bf_report_reader.specs.declared.entry.Entry.{Entry}
 use Rattle.bf_report_reader.specs.declared.part.GivenPart.{GivenPart}
 use Rattle.bf_report_reader.specs.Open.{OpenTask}
 use Rattle.bf_report_reader.specs.declared.open.OpenRun.{OpenRun}
-use Rattle.bf_report_reader.specs.declared.beginning.Beginning.{Beginning}
+use Rattle.bf_report_reader.specs.declared.beginning.ReportSoFar.{ReportSoFar}
 use Rattle.bf_report_reader.specs.Parts.{part_text}
 use Rattle.bf_report_reader.specs.Rules.{IsOpenInstance, IsOpenTask, IsOpenRun, IsRuled}
 use Rattle.bf_report_reader.specs.Entries.{entry_text}
-use Rattle.bf_report_reader.specs.Beginning.{task_with, open_task, tasks_in, open_count, count_of, closed, last_run, runs_of, run_count_of, tells_item, most_told, has_item, takes_at, with_told, untold, is_given_at, is_whole_in, is_whole_at, starts_before, is_text, is_new_in, is_next_in, is_next_at, ids_with, is_further, is_further_task, goes_on_in, goes_on_at, takes_task, takes_in, put_task, put_open, further, put_further, told, put_part, may_begin_in, with_run, with_task, with_open, with_further, with_part, with_entry, IsCountedIn, IsCounted, opening_text, so_far}
+use Rattle.bf_report_reader.specs.Beginning.{task_with, open_task, tasks_in, open_count, task_count_of, closed, last_run, runs_of, run_count_of, tells_item, most_told, has_item, takes_at, with_told, untold, has_its_item_at, is_whole_in, is_whole_at, starts_before, is_text, is_new_id_in, is_next_in, is_next_id_at, ids_with, is_further, is_further_task, goes_on_in, is_next_instance_at, takes_task, may_take_part_in, put_task, put_open, further, put_further, told, put_part, may_begin_in, with_run, with_task, with_open, with_further, with_part, with_entry, IsCountedIn, IsCounted, opening_text, so_far}
 use Rattle.bf_report_reader.proofs.Words.{id_utf8}
 
 -- the line of a task
@@ -34,7 +34,7 @@ abbrev pub entry_line : List ℕ → Entry → List ℕ
 entry_line id e = (id ++ 32 ∷ entry_text e) ++ 10 ∷ []
 
 -- a beginning has come from another by a line
-pub record GrowsBy (old : Beginning) (text : List ℕ) (new : Beginning) : Type 0 where
+pub record GrowsBy (old : ReportSoFar) (text : List ℕ) (new : ReportSoFar) : Type 0 where
   pub counted : IsCounted new
   pub read : opening_text (so_far new) ≡ opening_text (so_far old) ++ text
 
@@ -86,12 +86,12 @@ open_long : (t : Option OpenTask) → length (open_task t) ≡ open_count t
 open_long None = refl
 open_long (Some t) = refl
 
-pub count_is : (o : OpenRun) → length (tasks_in o) ≡ count_of o
+pub count_is : (o : OpenRun) → length (tasks_in o) ≡ task_count_of o
 count_is o = length-append o.run.tasks (open_task o.task) ∙ ap (λ n. length o.run.tasks + n) (open_long o.task)
 
 -- what stands in a test of what may come next
-pub next_parts : (b : Beginning) (id : List ℕ) → is_next_at b id ≡ true → (is_given_at b ≡ true) × (is_next_in b.runs b.tasks b.run id ≡ true)
-next_parts b id e = and_parts (is_given_at b) (is_next_in b.runs b.tasks b.run id) e
+pub next_parts : (b : ReportSoFar) (id : List ℕ) → is_next_id_at b id ≡ true → (has_its_item_at b ≡ true) × (is_next_in b.runs b.tasks b.run id ≡ true)
+next_parts b id e = and_parts (has_its_item_at b) (is_next_in b.runs b.tasks b.run id) e
 
 three_parts : (a b c : Bool) → (a && b) && c ≡ true → (a ≡ true) × ((b ≡ true) × (c ≡ true))
 three_parts a b c e =
@@ -99,7 +99,7 @@ three_parts a b c e =
     let (first, second) = and_parts a b both in
     (first, (second, third))
 
-pub new_parts : (tasks : List (List ℕ)) (id : List ℕ) → is_new_in tasks id ≡ true → (is_id_in id ≡ true) × ((nat_lt (length tasks) 2_000 ≡ true) × (not (list_any (λ task. bytes_eq task id) tasks) ≡ true))
+pub new_parts : (tasks : List (List ℕ)) (id : List ℕ) → is_new_id_in tasks id ≡ true → (is_id_in id ≡ true) × ((nat_lt (length tasks) 2_000 ≡ true) × (not (list_any (λ task. bytes_eq task id) tasks) ≡ true))
 new_parts tasks id e = three_parts (is_id_in id) (nat_lt (length tasks) 2_000) (not (list_any (λ task. bytes_eq task id) tasks)) e
 
 pub pull_parts : (version : Version) (complete : Bool) (x : InstanceReport) (p : Pull) → takes_at version complete x (GivenPart.Pull p) ≡ true
@@ -112,13 +112,13 @@ first_utf8 [] tasks None id first next = absurd (true≢false (sym next))
 first_utf8 [] tasks (Some o) id first next = id_utf8 id (new_parts tasks id next).0
 first_utf8 (r ∷ rs) tasks run id first next = absurd (omega (arith, first))
 
-pub further_parts : (b : Beginning) (id : List ℕ) (index : ℕ) → goes_on_at b id index ≡ true → (is_given_at b ≡ true) × (goes_on_in b.tasks b.run id index ≡ true)
-further_parts b id index e = and_parts (is_given_at b) (goes_on_in b.tasks b.run id index) e
+pub further_parts : (b : ReportSoFar) (id : List ℕ) (index : ℕ) → is_next_instance_at b id index ≡ true → (has_its_item_at b ≡ true) × (goes_on_in b.tasks b.run id index ≡ true)
+further_parts b id index e = and_parts (has_its_item_at b) (goes_on_in b.tasks b.run id index) e
 
-pub whole_parts : (b : Beginning) → is_whole_at b ≡ true → (is_given_at b ≡ true) × (is_whole_in b.run b.tasks ≡ true)
-whole_parts b e = and_parts (is_given_at b) (is_whole_in b.run b.tasks) e
+pub whole_parts : (b : ReportSoFar) → is_whole_at b ≡ true → (has_its_item_at b ≡ true) × (is_whole_in b.run b.tasks ≡ true)
+whole_parts b e = and_parts (has_its_item_at b) (is_whole_in b.run b.tasks) e
 
-pub begin_parts : (b : Beginning) (i : Interval) → may_begin_in b i ≡ true → (is_whole_at b ≡ true) × ((nat_lt (run_count_of b) 4_096 ≡ true) × (starts_before b.run i ≡ true))
+pub begin_parts : (b : ReportSoFar) (i : Interval) → may_begin_in b i ≡ true → (is_whole_at b ≡ true) × ((nat_lt (run_count_of b) 4_096 ≡ true) × (starts_before b.run i ≡ true))
 begin_parts b i e = three_parts (is_whole_at b) (nat_lt (run_count_of b) 4_096) (starts_before b.run i) e
 
 -- a run with one more task
@@ -140,23 +140,23 @@ one_more [] ids o new id t is counted next =
     ∙ ap (λ l. (run_line o.run ++ l) ++ task_text id t) (more_ids ids (id ∷ []) (tasks_in o) (omega (arith, size)))
     ∙ ap (λ l. l ++ task_text id t) (sym (append-nil (run_text ids (closed o))))
 one_more (r ∷ rs) ids o new id t is counted next =
-    let at : slice_get ids (length (tasks_in o)) ≡ Some id = ap (slice_get ids) (count_is o) ∙ is_text_of (slice_get ids (count_of o)) id next in
+    let at : slice_get ids (length (tasks_in o)) ≡ Some id = ap (slice_get ids) (count_is o) ∙ is_text_of (slice_get ids (task_count_of o)) id next in
     flat_push (run_text ids) (r ∷ rs) (closed new)
     ∙ ap (λ l. flat_map (run_text ids) (r ∷ rs) ++ l) (ap (run_text ids) is ∙ run_more ids o.run (tasks_in o) (tasks_in o ++ t ∷ []) id t at refl)
     ∙ sym (append_assoc (flat_map (run_text ids) (r ∷ rs)) (run_text ids (closed o)) (task_text id t))
     ∙ ap (λ l. l ++ task_text id t) (sym (flat_push (run_text ids) (r ∷ rs) (closed o)))
 
-counts_more : (runs : List RunReport) (ids : List (List ℕ)) (o new : OpenRun) (id : List ℕ) → count_of new ≡ count_of o + 1
+counts_more : (runs : List RunReport) (ids : List (List ℕ)) (o new : OpenRun) (id : List ℕ) → task_count_of new ≡ task_count_of o + 1
     → IsCountedIn runs ids (Some o) → is_next_in runs ids (Some o) id ≡ true → IsCountedIn runs (ids_with runs ids id) (Some new)
 counts_more [] ids o new id more counted next = omega (arith, more, counted, length-append ids (id ∷ []))
-counts_more (r ∷ rs) ids o new id more counted next = omega (arith, more, get_within ids id (count_of o) (is_text_of (slice_get ids (count_of o)) id next))
+counts_more (r ∷ rs) ids o new id more counted next = omega (arith, more, get_within ids id (task_count_of o) (is_text_of (slice_get ids (task_count_of o)) id next))
 
 -- ---- a task without a try
 
-pub task_grows : (b c : Beginning) (id : List ℕ) (t : TaskReport) → IsCounted b → with_task b id t ≡ Some c → GrowsBy b (task_text id t) c
+pub task_grows : (b c : ReportSoFar) (id : List ℕ) (t : TaskReport) → IsCounted b → with_task b id t ≡ Some c → GrowsBy b (task_text id t) c
 task_grows b c id t counted e =
-    let (next, is) = if_some (is_next_at b id) _ c e in
-    let P : Beginning → Type 0 = λ x. GrowsBy b (task_text id t) x in
+    let (next, is) = if_some (is_next_id_at b id) _ c e in
+    let P : ReportSoFar → Type 0 = λ x. GrowsBy b (task_text id t) x in
     subst P is (grown b.run counted (next_parts b id next).1)
   where
     grown : (run : Option OpenRun) → IsCountedIn b.runs b.tasks run → is_next_in b.runs b.tasks run id ≡ true
@@ -173,10 +173,10 @@ task_grows b c id t counted e =
 
 -- ---- a task that may have more lines
 
-pub open_grows : (b c : Beginning) (id : List ℕ) (t : OpenTask) → IsCounted b → with_open b id t ≡ Some c → GrowsBy b (task_text id (task_with t.before t.instance)) c
+pub open_grows : (b c : ReportSoFar) (id : List ℕ) (t : OpenTask) → IsCounted b → with_open b id t ≡ Some c → GrowsBy b (task_text id (task_with t.before t.instance)) c
 open_grows b c id t counted e =
-    let (next, is) = if_some (is_next_at b id) _ c e in
-    let P : Beginning → Type 0 = λ x. GrowsBy b (task_text id (task_with t.before t.instance)) x in
+    let (next, is) = if_some (is_next_id_at b id) _ c e in
+    let P : ReportSoFar → Type 0 = λ x. GrowsBy b (task_text id (task_with t.before t.instance)) x in
     subst P is (grown b.run counted (next_parts b id next).1)
   where
     grown : (run : Option OpenRun) → IsCountedIn b.runs b.tasks run → is_next_in b.runs b.tasks run id ≡ true
@@ -209,15 +209,15 @@ run_longer ids run old new id more at longer =
     ∙ sym (append_assoc (run_text ids run) (task_text id old) more)
     ∙ ap (λ l. l ++ more) (sym (run_more ids run run.tasks (run.tasks ++ old ∷ []) id old at refl))
 
-same_count : (runs : List RunReport) (ids : List (List ℕ)) (o new : OpenRun) → count_of new ≡ count_of o → IsCountedIn runs ids (Some o) → IsCountedIn runs ids (Some new)
+same_count : (runs : List RunReport) (ids : List (List ℕ)) (o new : OpenRun) → task_count_of new ≡ task_count_of o → IsCountedIn runs ids (Some o) → IsCountedIn runs ids (Some new)
 same_count [] ids o new same counted = same ∙ counted
 same_count (r ∷ rs) ids o new same counted = omega (arith, same, counted)
 
 -- a run whose open task is t
-abbrev with_last : Beginning → RunReport → OpenTask → Beginning
+abbrev with_last : ReportSoFar → RunReport → OpenTask → ReportSoFar
 with_last b run t = record b { run = Some (record { run = run; task = Some t }) }
 
-last_grows : (b : Beginning) (run : RunReport) (t u : OpenTask) (id more : List ℕ) → IsCountedIn b.runs b.tasks (Some (record { run = run; task = Some t })) → slice_get b.tasks (length run.tasks) ≡ Some id
+last_grows : (b : ReportSoFar) (run : RunReport) (t u : OpenTask) (id more : List ℕ) → IsCountedIn b.runs b.tasks (Some (record { run = run; task = Some t })) → slice_get b.tasks (length run.tasks) ≡ Some id
     → task_text id (task_with u.before u.instance) ≡ task_text id (task_with t.before t.instance) ++ more → GrowsBy (with_last b run t) more (with_last b run u)
 last_grows b run t u id more counted at longer =
     let o : OpenRun = record { run = run; task = Some t } in
@@ -240,10 +240,10 @@ further_text id xs x r index is =
     numbered_more (λ p. instance_text id (decimal p.0) p.1) 0 index (xs ++ x ∷ []) (untold r) (omega (arith, is, length-append xs (x ∷ [])))
     ∙ ap (λ l. mapped_text id (xs ++ x ∷ []) ++ l) (untold_text id (decimal index) r)
 
-pub further_grows : (b c : Beginning) (id : List ℕ) (index : ℕ) (r : TaskResult) → IsCounted b → with_further b id index r ≡ Some c → GrowsBy b (instance_line id (decimal index) r) c
+pub further_grows : (b c : ReportSoFar) (id : List ℕ) (index : ℕ) (r : TaskResult) → IsCounted b → with_further b id index r ≡ Some c → GrowsBy b (instance_line id (decimal index) r) c
 further_grows b c id index r counted e =
-    let (next, is) = if_some (goes_on_at b id index) _ c e in
-    let P : Beginning → Type 0 = λ x. GrowsBy b (instance_line id (decimal index) r) x in
+    let (next, is) = if_some (is_next_instance_at b id index) _ c e in
+    let P : ReportSoFar → Type 0 = λ x. GrowsBy b (instance_line id (decimal index) r) x in
     subst P is (grown b.run counted (further_parts b id index next).1)
   where
     last : (run : RunReport) (before : Option (List InstanceReport)) (x : InstanceReport) → IsCountedIn b.runs b.tasks (Some (record { run = run; task = Some (record { before = before; instance = x }) }))
@@ -268,7 +268,7 @@ further_grows b c id index r counted e =
 
 -- ---- what a line says of a task
 
-pub entry_grows : (b c : Beginning) (id : List ℕ) (e : Entry) → IsCounted b → with_entry b id e ≡ Some c → GrowsBy b (entry_line id e) c
+pub entry_grows : (b c : ReportSoFar) (id : List ℕ) (e : Entry) → IsCounted b → with_entry b id e ≡ Some c → GrowsBy b (entry_line id e) c
 unfolding with_entry
 entry_grows b c id (Entry.Never Untried.NoStatus) counted e = task_grows b c id TaskReport.NoStatus counted e
 entry_grows b c id (Entry.Never Untried.Skipped) counted e = task_grows b c id TaskReport.Skipped counted e
@@ -313,10 +313,10 @@ last_id : (runs : List RunReport) (ids : List (List ℕ)) (run : RunReport) (t :
 last_id [] ids run t counted = slice_get-get_or ids (length run.tasks) [] (omega (arith, counted))
 last_id (r ∷ rs) ids run t counted = slice_get-get_or ids (length run.tasks) [] (omega (arith, counted))
 
-pub part_grows : (b c : Beginning) (part : GivenPart) → IsCounted b → IsRuled b → with_part b part ≡ Some c → GrowsBy b (part_line part) c
+pub part_grows : (b c : ReportSoFar) (part : GivenPart) → IsCounted b → IsRuled b → with_part b part ≡ Some c → GrowsBy b (part_line part) c
 part_grows b c part counted ruled e =
-    let (next, is) = if_some (takes_in b.version b.run part) _ c e in
-    let P : Beginning → Type 0 = λ x. GrowsBy b (part_line part) x in
+    let (next, is) = if_some (may_take_part_in b.version b.run part) _ c e in
+    let P : ReportSoFar → Type 0 = λ x. GrowsBy b (part_line part) x in
     subst P is (grown b.run counted ruled.last next)
   where
     open_last : (run : RunReport) (task : Option OpenTask) → IsCountedIn b.runs b.tasks (Some (record { run = run; task = task })) → IsOpenTask b.version task → takes_task b.version task part ≡ true
@@ -327,23 +327,23 @@ part_grows b c part counted ruled e =
         last_grows b run t (told t part) id (part_line part) counted (last_id b.runs b.tasks run t counted)
         (task_longer id t.before t.instance (with_told t.instance part) (part_line part) (λ index. part_longer b.version (is_some t.before) id index t.instance part good.1 next))
 
-    grown : (run : Option OpenRun) → IsCountedIn b.runs b.tasks run → IsOpenRun b.version run → takes_in b.version run part ≡ true → GrowsBy (record b { run = run }) (part_line part) (record b { run = put_part run part })
+    grown : (run : Option OpenRun) → IsCountedIn b.runs b.tasks run → IsOpenRun b.version run → may_take_part_in b.version run part ≡ true → GrowsBy (record b { run = run }) (part_line part) (record b { run = put_part run part })
     grown None counted good next = absurd (true≢false (sym next))
     grown (Some o) counted good next = open_last o.run o.task counted good.2 next
 
 -- ---- a run
 
-run_begins : (runs : List RunReport) (ids : List (List ℕ)) (run : Option OpenRun) (o : OpenRun) → count_of o ≡ 0 → IsCountedIn runs ids run → IsCountedIn (runs ++ last_run run) ids (Some o)
+run_begins : (runs : List RunReport) (ids : List (List ℕ)) (run : Option OpenRun) (o : OpenRun) → task_count_of o ≡ 0 → IsCountedIn runs ids run → IsCountedIn (runs ++ last_run run) ids (Some o)
 run_begins [] ids None o none counted = none ∙ ap length (sym counted)
 run_begins [] ids (Some p) o none counted = omega (arith, none)
 run_begins (r ∷ rs) ids None o none counted = absurd counted
 run_begins (r ∷ rs) ids (Some p) o none counted = omega (arith, none)
 
-pub run_grows : (b c : Beginning) (run : RunReport) → run.tasks ≡ [] → IsCounted b → with_run b run ≡ Some c → GrowsBy b (run_line run) c
+pub run_grows : (b c : ReportSoFar) (run : RunReport) → run.tasks ≡ [] → IsCounted b → with_run b run ≡ Some c → GrowsBy b (run_line run) c
 run_grows b c run none counted e =
     let (next, is) = if_some (may_begin_in b run.interval) _ c e in
     let o : OpenRun = record { run = run; task = None } in
-    let P : Beginning → Type 0 = λ x. GrowsBy b (run_line run) x in
+    let P : ReportSoFar → Type 0 = λ x. GrowsBy b (run_line run) x in
     let bare : run_text b.tasks (closed o) ≡ run_line run = ap (λ ts. run_line run ++ tasks_text b.tasks (ts ++ [])) none ∙ ap (λ l. run_line run ++ l) (no_tasks b.tasks) ∙ append-nil (run_line run) in
     subst P is (record {
       counted = run_begins b.runs b.tasks b.run o (ap (λ ts. length ts + 0) none) counted;

@@ -20,13 +20,13 @@ use Rattle.bf_report_reader.specs.declared.entry.Untried.{Untried}
 use Rattle.bf_report_reader.specs.declared.entry.Entry.{Entry}
 use Rattle.bf_report_reader.specs.declared.part.GivenPart.{GivenPart}
 use Rattle.bf_report_reader.specs.declared.open.OpenRun.{OpenRun}
-use Rattle.bf_report_reader.specs.declared.beginning.Beginning.{Beginning}
+use Rattle.bf_report_reader.specs.declared.beginning.ReportSoFar.{ReportSoFar}
 use Rattle.bf_report_reader.specs.Entries.{IsEntry, entry_text, index_text, never_word}
 use Rattle.bf_report_reader.specs.Parts.{IsToldItem, IsToldPull, IsPart, pull_words, part_text}
 use Rattle.bf_report_reader.specs.Runs.{IsRunInterval, run_words}
 use Rattle.bf_report_reader.specs.Rules.{IsRuled}
 use Rattle.bf_report_reader.specs.Faults.{IsInLine, longest_line}
-use Rattle.bf_report_reader.specs.Beginning.{count_of, runs_of, is_text, is_next_in, is_next_at, is_further_task, goes_on_in, goes_on_at, with_entry, with_run, with_part, IsCounted, IsSmall}
+use Rattle.bf_report_reader.specs.Beginning.{task_count_of, runs_of, is_text, is_next_in, is_next_id_at, is_further_task, goes_on_in, is_next_instance_at, with_entry, with_run, with_part, IsCounted, IsSmall}
 use Rattle.bf_report_reader.specs.declared.reading.Step.{Step}
 use Rattle.bf_report_reader.specs.Reads.{IsWord}
 use Rattle.bf_report_reader.specs.Steps.{Follows, MayEnd, MayStand, Steps, EntrySteps, EndsBy}
@@ -46,7 +46,7 @@ each_at P (y ∷ ys) (suc n) x each at = each_at P ys n x each.1 at
 next_id : (runs : List RunReport) (ids : List (List ℕ)) (run : Option OpenRun) (id : List ℕ) → AllByRecursion (λ id. is_id_in id ≡ true) ids → is_next_in runs ids run id ≡ true → is_id_in id ≡ true
 next_id runs ids None id named next = absurd (true≢false (sym next))
 next_id [] ids (Some o) id named next = (new_parts ids id next).0
-next_id (r ∷ rs) ids (Some o) id named next = each_at (λ i. is_id_in i ≡ true) ids (count_of o) id named (is_text_of (slice_get ids (count_of o)) id next)
+next_id (r ∷ rs) ids (Some o) id named next = each_at (λ i. is_id_in i ≡ true) ids (task_count_of o) id named (is_text_of (slice_get ids (task_count_of o)) id next)
 
 further_id : (ids : List (List ℕ)) (run : Option OpenRun) (id : List ℕ) (index : ℕ) → AllByRecursion (λ id. is_id_in id ≡ true) ids → goes_on_in ids run id index ≡ true → is_id_in id ≡ true
 further_id ids None id index named next = absurd (true≢false (sym next))
@@ -54,14 +54,14 @@ further_id ids (Some o) id index named next =
     let (number, last) = and_parts (is_further_task o.task index) (is_text (slice_get ids (length o.run.tasks)) id) next in
     each_at (λ i. is_id_in i ≡ true) ids (length o.run.tasks) id named (is_text_of _ id last)
 
-pub entry_id : (b c : Beginning) (id : List ℕ) (e : Entry) → IsRuled b → with_entry b id e ≡ Some c → is_id_in id ≡ true
+pub entry_id : (b c : ReportSoFar) (id : List ℕ) (e : Entry) → IsRuled b → with_entry b id e ≡ Some c → is_id_in id ≡ true
 unfolding with_entry
-entry_id b c id (Entry.Never Untried.NoStatus) ruled added = next_id b.runs b.tasks b.run id ruled.ids (next_parts b id (if_some (is_next_at b id) _ c added).0).1
-entry_id b c id (Entry.Never Untried.Skipped) ruled added = next_id b.runs b.tasks b.run id ruled.ids (next_parts b id (if_some (is_next_at b id) _ c added).0).1
-entry_id b c id (Entry.Never Untried.UpstreamFailed) ruled added = next_id b.runs b.tasks b.run id ruled.ids (next_parts b id (if_some (is_next_at b id) _ c added).0).1
-entry_id b c id (Entry.Tried None r) ruled added = next_id b.runs b.tasks b.run id ruled.ids (next_parts b id (if_some (is_next_at b id) _ c added).0).1
-entry_id b c id (Entry.Tried (Some zero) r) ruled added = next_id b.runs b.tasks b.run id ruled.ids (next_parts b id (if_some (is_next_at b id) _ c added).0).1
-entry_id b c id (Entry.Tried (Some (suc n)) r) ruled added = further_id b.tasks b.run id (suc n) ruled.ids (further_parts b id (suc n) (if_some (goes_on_at b id (suc n)) _ c added).0).1
+entry_id b c id (Entry.Never Untried.NoStatus) ruled added = next_id b.runs b.tasks b.run id ruled.ids (next_parts b id (if_some (is_next_id_at b id) _ c added).0).1
+entry_id b c id (Entry.Never Untried.Skipped) ruled added = next_id b.runs b.tasks b.run id ruled.ids (next_parts b id (if_some (is_next_id_at b id) _ c added).0).1
+entry_id b c id (Entry.Never Untried.UpstreamFailed) ruled added = next_id b.runs b.tasks b.run id ruled.ids (next_parts b id (if_some (is_next_id_at b id) _ c added).0).1
+entry_id b c id (Entry.Tried None r) ruled added = next_id b.runs b.tasks b.run id ruled.ids (next_parts b id (if_some (is_next_id_at b id) _ c added).0).1
+entry_id b c id (Entry.Tried (Some zero) r) ruled added = next_id b.runs b.tasks b.run id ruled.ids (next_parts b id (if_some (is_next_id_at b id) _ c added).0).1
+entry_id b c id (Entry.Tried (Some (suc n)) r) ruled added = further_id b.tasks b.run id (suc n) ruled.ids (further_parts b id (suc n) (if_some (is_next_instance_at b id (suc n)) _ c added).0).1
 
 -- ---- one thing each
 
@@ -105,7 +105,7 @@ same_bare r s bare other good too e =
     same_run r s interval state (bare ∙ sym other)
 
 -- a line leads to one report
-pub follows_once : (b c d : Beginning) (text : List ℕ) → IsRuled b → Follows b text c → Follows b text d → c ≡ d
+pub follows_once : (b c d : ReportSoFar) (text : List ℕ) → IsRuled b → Follows b text c → Follows b text d → c ≡ d
 follows_once b c d text ruled (inl one) (inl two) =
     let named = entry_id b c one.id one.entry ruled one.added in
     let other = entry_id b d two.id two.entry ruled two.added in
@@ -124,7 +124,7 @@ follows_once b c d text ruled (inr (inl one)) (inr (inl two)) =
     some_same (sym one.added ∙ ap (with_run b) (same_bare one.run two.run one.bare two.bare one.good two.good words) ∙ two.added)
 
 -- the end line is none that a report goes on by
-pub end_once : (b c : Beginning) (text : List ℕ) → IsRuled b → Follows b text c → MayEnd b text → ⊥
+pub end_once : (b c : ReportSoFar) (text : List ℕ) → IsRuled b → Follows b text c → MayEnd b text → ⊥
 end_once b c text ruled (inl one) ends = not_end one.id _ _ (entry_id b c one.id one.entry ruled one.added) (sym one.spelled ∙ ends.0)
 end_once b c text ruled (inr (inl one)) ends = run_not_end _ _ (sym one.spelled ∙ ends.0)
 end_once b c text ruled (inr (inr one)) ends = end_not_part one.part _ (sym ends.0 ∙ one.spelled)
@@ -147,7 +147,7 @@ part_in_line : (part : GivenPart) → IsPart part → Lacks 10 (part_text part)
 part_in_line (GivenPart.Item v) good = text_lacks v
 part_in_line (GivenPart.Pull p) good = lacks_append 10 p.task (32 ∷ pulled_word p.value) (id_lacks 10 p.task (omega arith) good.0) (pulled_lacks p.value)
 
-pub stands_in_line : (b : Beginning) (text : List ℕ) → IsRuled b → MayStand b text → IsInLine text
+pub stands_in_line : (b : ReportSoFar) (text : List ℕ) → IsRuled b → MayStand b text → IsInLine text
 stands_in_line b text ruled (inl (c, inl one)) =
     subst IsInLine (sym one.spelled) (lacks_append 10 one.id (32 ∷ entry_text one.entry) (id_lacks 10 one.id (omega arith) (entry_id b c one.id one.entry ruled one.added)) (entry_in_line one.entry))
 stands_in_line b text ruled (inl (c, inr (inr one))) = subst IsInLine (sym one.spelled) (part_in_line one.part one.good)
@@ -180,7 +180,7 @@ part_short (GivenPart.Pull p) good =
 short_enough : (text : List ℕ) → length text ≤ 66_000 → length text ≤ longest_line text
 short_enough text short = omega (arith, short, at_least text)
 
-pub stands_short : (b : Beginning) (text : List ℕ) → IsRuled b → MayStand b text → length text ≤ longest_line text
+pub stands_short : (b : ReportSoFar) (text : List ℕ) → IsRuled b → MayStand b text → length text ≤ longest_line text
 stands_short b text ruled (inl (c, inl one)) = short_enough text
     (omega (arith, ap length one.spelled, length-append one.id (32 ∷ entry_text one.entry), id_short one.id (entry_id b c one.id one.entry ruled one.added), entry_short one.entry one.good))
 stands_short b text ruled (inl (c, inr (inl one))) =
@@ -203,27 +203,27 @@ stands_short b text ruled (inr ends) = short_enough text (omega (arith, ap lengt
 none_added : {X : Type 0} (o p : Option X) (x : X) → o ≡ None → o ≡ p → p ≡ Some x → ⊥
 none_added o p x none same some = absurd (cc (none, same, some))
 
-pub entry_step : (b c : Beginning) (id text : List ℕ) (e : Entry) (taken : Bool) → IsCounted b → IsSmall b → IsRuled b → IsEntry e → text ≡ entry_text e → with_entry b id e ≡ cond taken (Some c) None
+pub entry_step : (b c : ReportSoFar) (id text : List ℕ) (e : Entry) (taken : Bool) → IsCounted b → IsSmall b → IsRuled b → IsEntry e → text ≡ entry_text e → with_entry b id e ≡ cond taken (Some c) None
     → EntrySteps (cond taken Step.Taken Step.Refused) b id text c
 entry_step b c id text e true counted small ruled good spelled added = entry_next b c id (id ++ 32 ∷ text) e counted small ruled good (ap (λ t. id ++ 32 ∷ t) spelled) added
 entry_step b c id text e false counted small ruled good spelled none = λ f other too spelled' added. none_added _ _ other none (ap (with_entry b id) (same_entry e f good too (sym spelled ∙ spelled'))) added
 
 -- no run is spelled
-pub no_run : (b : Beginning) (text : List ℕ) → IsRuled b → ((run : RunReport) (c : Beginning) → run.tasks ≡ [] → IsRunInterval run.interval → text ≡ run_words (run.interval, run.state) → with_run b run ≡ Some c → ⊥)
+pub no_run : (b : ReportSoFar) (text : List ℕ) → IsRuled b → ((run : RunReport) (c : ReportSoFar) → run.tasks ≡ [] → IsRunInterval run.interval → text ≡ run_words (run.interval, run.state) → with_run b run ≡ Some c → ⊥)
     → MayStand b (codes "@run" ++ 32 ∷ text) → ⊥
 no_run b text ruled none (inl (c, inl one)) = not_run one.id _ _ (entry_id b c one.id one.entry ruled one.added) (sym one.spelled)
 no_run b text ruled none (inl (c, inr (inr one))) = run_not_part one.part _ one.spelled
 no_run b text ruled none (inl (c, inr (inl one))) = none one.run c one.bare one.good (cut_once 32 (codes "@run") (codes "@run") text _ refl refl one.spelled).1 one.added
 no_run b text ruled none (inr ends) = run_not_end _ _ ends.0
 
-pub run_step : (b c : Beginning) (text : List ℕ) (run : RunReport) (taken : Bool) → run.tasks ≡ [] → IsRunInterval run.interval → IsCounted b → IsSmall b → IsRuled b → text ≡ run_words (run.interval, run.state)
+pub run_step : (b c : ReportSoFar) (text : List ℕ) (run : RunReport) (taken : Bool) → run.tasks ≡ [] → IsRunInterval run.interval → IsCounted b → IsSmall b → IsRuled b → text ≡ run_words (run.interval, run.state)
     → with_run b run ≡ cond taken (Some c) None → Steps (cond taken Step.Taken Step.Refused) b (codes "@run" ++ 32 ∷ text) c
 run_step b c text run true bare good counted small ruled spelled added = run_next b c (codes "@run" ++ 32 ∷ text) run bare good counted small ruled (ap (λ t. codes "@run" ++ 32 ∷ t) spelled) added
 run_step b c text run false bare good counted small ruled spelled none =
     no_run b text ruled (λ s other too fine spelled' added. none_added _ _ other none (ap (with_run b) (same_bare run s bare too good fine (sym spelled ∙ spelled'))) added)
 
 -- no item and no pull is spelled
-pub no_item_line : (b : Beginning) (text : List ℕ) → IsRuled b → ((v : Xval) (c : Beginning) → IsToldItem v → text ≡ json_of v → with_part b (GivenPart.Item v) ≡ Some c → ⊥) → MayStand b (codes "@item" ++ 32 ∷ text) → ⊥
+pub no_item_line : (b : ReportSoFar) (text : List ℕ) → IsRuled b → ((v : Xval) (c : ReportSoFar) → IsToldItem v → text ≡ json_of v → with_part b (GivenPart.Item v) ≡ Some c → ⊥) → MayStand b (codes "@item" ++ 32 ∷ text) → ⊥
 no_item_line b text ruled none (inl (c, inl one)) = not_word (codes "@item") one.id _ text refl refl (entry_id b c one.id one.entry ruled one.added) (sym one.spelled)
 no_item_line b text ruled none (inl (c, inr (inl one))) = apart (codes "@item") (codes "@run") text _ refl refl refl refl one.spelled
 no_item_line b text ruled none (inl (c, inr (inr one))) = go one.part one.good one.spelled one.added
@@ -233,7 +233,7 @@ no_item_line b text ruled none (inl (c, inr (inr one))) = go one.part one.good o
     go (GivenPart.Pull p) good spelled added = apart (codes "@item") (codes "@pull") text (pull_words p) refl refl refl refl spelled
 no_item_line b text ruled none (inr ends) = apart (codes "@item") (codes "@end") text _ refl refl refl refl ends.0
 
-pub no_pull_line : (b : Beginning) (text : List ℕ) → IsRuled b → ((p : Pull) (c : Beginning) → IsToldPull p → text ≡ pull_words p → with_part b (GivenPart.Pull p) ≡ Some c → ⊥) → MayStand b (codes "@pull" ++ 32 ∷ text) → ⊥
+pub no_pull_line : (b : ReportSoFar) (text : List ℕ) → IsRuled b → ((p : Pull) (c : ReportSoFar) → IsToldPull p → text ≡ pull_words p → with_part b (GivenPart.Pull p) ≡ Some c → ⊥) → MayStand b (codes "@pull" ++ 32 ∷ text) → ⊥
 no_pull_line b text ruled none (inl (c, inl one)) = not_word (codes "@pull") one.id _ text refl refl (entry_id b c one.id one.entry ruled one.added) (sym one.spelled)
 no_pull_line b text ruled none (inl (c, inr (inl one))) = apart (codes "@pull") (codes "@run") text _ refl refl refl refl one.spelled
 no_pull_line b text ruled none (inl (c, inr (inr one))) = go one.part one.good one.spelled one.added
@@ -243,7 +243,7 @@ no_pull_line b text ruled none (inl (c, inr (inr one))) = go one.part one.good o
     go (GivenPart.Item v) good spelled added = apart (codes "@pull") (codes "@item") text (json_of v) refl refl refl refl spelled
 no_pull_line b text ruled none (inr ends) = apart (codes "@pull") (codes "@end") text _ refl refl refl refl ends.0
 
-pub part_step : (b c : Beginning) (line : List ℕ) (part : GivenPart) (taken : Bool) → IsCounted b → IsSmall b → IsRuled b → IsPart part → line ≡ part_text part → with_part b part ≡ cond taken (Some c) None
+pub part_step : (b c : ReportSoFar) (line : List ℕ) (part : GivenPart) (taken : Bool) → IsCounted b → IsSmall b → IsRuled b → IsPart part → line ≡ part_text part → with_part b part ≡ cond taken (Some c) None
     → Steps (cond taken Step.Taken Step.Refused) b line c
 part_step b c line part true counted small ruled good spelled added = part_next b c line part counted small ruled good spelled added
 part_step b c line part false counted small ruled good spelled none =
@@ -254,7 +254,7 @@ part_step b c line part false counted small ruled good spelled none =
     go (GivenPart.Item v) good none = no_item_line b (json_of v) ruled (λ w other too spelled' added. none_added _ _ other none (ap (λ x. with_part b (GivenPart.Item x)) (same_told 64 65_536 v w good too spelled')) added)
     go (GivenPart.Pull p) good none = no_pull_line b (pull_words p) ruled (λ q other too spelled' added. none_added _ _ other none (ap (λ x. with_part b (GivenPart.Pull x)) (same_pull p q good too spelled')) added)
 
-pub no_end : (b : Beginning) (text : List ℕ) → IsRuled b → (MayEnd b (codes "@end" ++ 32 ∷ text) → ⊥) → MayStand b (codes "@end" ++ 32 ∷ text) → ⊥
+pub no_end : (b : ReportSoFar) (text : List ℕ) → IsRuled b → (MayEnd b (codes "@end" ++ 32 ∷ text) → ⊥) → MayStand b (codes "@end" ++ 32 ∷ text) → ⊥
 no_end b text ruled none (inl (c, inl one)) = not_end one.id _ _ (entry_id b c one.id one.entry ruled one.added) (sym one.spelled)
 no_end b text ruled none (inl (c, inr (inl one))) = run_not_end _ _ (sym one.spelled)
 no_end b text ruled none (inl (c, inr (inr one))) = end_not_part one.part _ one.spelled
@@ -268,8 +268,8 @@ pub record IsOtherWord (id : List ℕ) : Type 0 where
   pub not_pull : id ≡ codes "@pull" → ⊥
   pub not_end : id ≡ codes "@end" → ⊥
 
-pub no_entry : (b : Beginning) (id text : List ℕ) → IsOtherWord id → IsRuled b
-    → ((e : Entry) (c : Beginning) → IsEntry e → text ≡ entry_text e → with_entry b id e ≡ Some c → ⊥) → MayStand b (id ++ 32 ∷ text) → ⊥
+pub no_entry : (b : ReportSoFar) (id text : List ℕ) → IsOtherWord id → IsRuled b
+    → ((e : Entry) (c : ReportSoFar) → IsEntry e → text ≡ entry_text e → with_entry b id e ≡ Some c → ⊥) → MayStand b (id ++ 32 ∷ text) → ⊥
 no_entry b id text other ruled none (inl (c, inl one)) =
     let (same, rest) = cut_once 32 id one.id text (entry_text one.entry) other.word (id_lacks 32 one.id (omega arith) (entry_id b c one.id one.entry ruled one.added)) one.spelled in
     none one.entry c one.good rest (ap (λ i. with_entry b i one.entry) same ∙ one.added)
@@ -281,12 +281,12 @@ no_entry b id text other ruled none (inl (c, inr (inr one))) = go one.part one.s
     go (GivenPart.Pull p) spelled = other.not_pull (cut_once 32 id (codes "@pull") text (pull_words p) other.word refl spelled).0
 no_entry b id text other ruled none (inr ends) = other.not_end (cut_once 32 id (codes "@end") text _ other.word refl ends.0).0
 
-pub entry_steps : (b c : Beginning) (id text : List ℕ) (step : Step) → IsOtherWord id → IsRuled b → EntrySteps step b id text c → Steps step b (id ++ 32 ∷ text) c
+pub entry_steps : (b c : ReportSoFar) (id text : List ℕ) (step : Step) → IsOtherWord id → IsRuled b → EntrySteps step b id text c → Steps step b (id ++ 32 ∷ text) c
 entry_steps b c id text Step.Taken other ruled steps = steps
 entry_steps b c id text Step.End other ruled steps = absurd steps
 entry_steps b c id text Step.Refused other ruled steps = no_entry b id text other ruled steps
 
-pub end_steps : (b : Beginning) (text : List ℕ) (step : Step) → IsRuled b → EndsBy step b text → Steps step b (codes "@end" ++ 32 ∷ text) b
+pub end_steps : (b : ReportSoFar) (text : List ℕ) (step : Step) → IsRuled b → EndsBy step b text → Steps step b (codes "@end" ++ 32 ∷ text) b
 end_steps b text Step.Taken ruled ends = absurd ends
 end_steps b text Step.End ruled ends = (ends, refl)
 end_steps b text Step.Refused ruled ends = no_end b text ruled ends

@@ -13,7 +13,7 @@ use Rattle.bf_report_reader.specs.declared.entry.Untried.{Untried}
 use Rattle.bf_report_reader.specs.declared.part.GivenPart.{GivenPart}
 use Rattle.bf_report_reader.specs.Open.{OpenTask, RunSoFar}
 use Rattle.bf_report_reader.specs.Parting.{parted_with, parted, expanded_by, open_by, last_open, open_in, shut_with, shut_by, shut_in, run_so_far}
-use Rattle.bf_report_reader.specs.Beginning.{open_task, count_of, closed, never_report, has_item, takes_at, is_given_task, takes_task, is_further_task, further, told, untold, with_told, put_task, put_open, put_further, put_part}
+use Rattle.bf_report_reader.specs.Beginning.{open_task, task_count_of, closed, never_report, has_item, takes_at, is_given_task, takes_task, is_further_task, further, told, untold, with_told, put_task, put_open, put_further, put_part}
 use Rattle.bf_report_reader.specs.Lasts.{put_last, at_last, told_task, further_task}
 use Rattle.bf_report_reader.proofs.Growth.{get_last, count_is}
 
@@ -88,7 +88,7 @@ tasks_seen tasks = tasks_back tasks (parted tasks) (parted_is tasks)
 pub closed_seen : (r : RunReport) → closed (run_so_far r) ≡ r
 closed_seen r = ap (λ ts. record r { tasks = ts }) (tasks_seen r.tasks)
 
-pub count_seen : (r : RunReport) → length r.tasks ≡ count_of (run_so_far r)
+pub count_seen : (r : RunReport) → length r.tasks ≡ task_count_of (run_so_far r)
 count_seen r = ap length (sym (tasks_seen r.tasks)) ∙ count_is (run_so_far r)
 
 pub seen_empty : (r : RunReport) → r.tasks ≡ [] → run_so_far r ≡ record { run = r; task = None }

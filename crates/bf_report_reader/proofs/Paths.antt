@@ -23,12 +23,12 @@ use Rattle.bf_report_reader.specs.declared.entry.Entry.{Entry}
 use Rattle.bf_report_reader.specs.declared.part.GivenPart.{GivenPart}
 use Rattle.bf_report_reader.specs.Open.{OpenTask}
 use Rattle.bf_report_reader.specs.declared.open.OpenRun.{OpenRun}
-use Rattle.bf_report_reader.specs.declared.beginning.Beginning.{Beginning}
+use Rattle.bf_report_reader.specs.declared.beginning.ReportSoFar.{ReportSoFar}
 use Rattle.bf_report_reader.specs.Entries.{IsEntry, entry_text}
 use Rattle.bf_report_reader.specs.Parts.{IsToldPull, IsPart, part_text}
 use Rattle.bf_report_reader.specs.Runs.{run_words}
 use Rattle.bf_report_reader.specs.Rules.{MayHaveItem, IsShownInstance, IsShownTask, IsShownRun, Rise, IsShownReport}
-use Rattle.bf_report_reader.specs.Beginning.{task_with, tasks_in, count_of, closed, runs_of, run_count_of, so_far, tells_item, most_told, has_item, untold, is_given_task, is_whole_at, may_begin_in, is_text, is_next_in, ids_with, with_entry, with_part}
+use Rattle.bf_report_reader.specs.Beginning.{task_with, tasks_in, task_count_of, closed, runs_of, run_count_of, so_far, tells_item, most_told, has_item, untold, is_given_task, is_whole_at, may_begin_in, is_text, is_next_in, ids_with, with_entry, with_part}
 use Rattle.bf_report_reader.specs.Steps.{Follows}
 use Rattle.bf_report_reader.specs.Extensions.{start, Leads, Extends}
 use Rattle.bf_report_reader.proofs.Growth.{count_is}
@@ -38,26 +38,26 @@ head_of report = (report.version, report.dag_id)
 
 -- ---- paths
 
-Reaches : Beginning → Beginning → Type 0
+Reaches : ReportSoFar → ReportSoFar → Type 0
 Reaches b c = (n : ℕ) × Leads n b c
 
-stays : (b c : Beginning) → b ≡ c → Reaches b c
+stays : (b c : ReportSoFar) → b ≡ c → Reaches b c
 unfolding Reaches
 stays b c same = (zero, same)
 
-by_line : (b c d : Beginning) (text : List ℕ) → Follows b text c → Reaches c d → Reaches b d
+by_line : (b c d : ReportSoFar) (text : List ℕ) → Follows b text c → Reaches c d → Reaches b d
 unfolding Reaches
 by_line b c d text follows (n, leads) = (suc n, (text, c, follows, leads))
 
-on_from : (n : ℕ) (b c d : Beginning) → Leads n b c → Reaches c d → Reaches b d
-on_from zero b c d same on = subst (λ (x : Beginning). Reaches x d) (sym same) on
+on_from : (n : ℕ) (b c d : ReportSoFar) → Leads n b c → Reaches c d → Reaches b d
+on_from zero b c d same on = subst (λ (x : ReportSoFar). Reaches x d) (sym same) on
 on_from (suc n) b c d (text, next, follows, leads) on = by_line b next d text follows (on_from n next c d leads on)
 
-reach_on : (b c d : Beginning) → Reaches b c → Reaches c d → Reaches b d
+reach_on : (b c d : ReportSoFar) → Reaches b c → Reaches c d → Reaches b d
 unfolding Reaches
 reach_on b c d (n, leads) on = on_from n b c d leads on
 
-entry_line_of : (b c : Beginning) (id : List ℕ) (e : Entry) → IsEntry e → with_entry b id e ≡ Some c → Follows b (id ++ 32 ∷ entry_text e) c
+entry_line_of : (b c : ReportSoFar) (id : List ℕ) (e : Entry) → IsEntry e → with_entry b id e ≡ Some c → Follows b (id ++ 32 ∷ entry_text e) c
 entry_line_of b c id e good added = inl (record { id = id; entry = e; good = good; spelled = refl; added = added })
 
 -- ---- tests that hold
@@ -95,10 +95,10 @@ not_there done ids id distinct = none_is done id (λ k d h same.
 -- ---- an instance
 
 -- the run is read up to this task
-abbrev at_task : Beginning → RunReport → Option (List InstanceReport) → InstanceReport → Beginning
+abbrev at_task : ReportSoFar → RunReport → Option (List InstanceReport) → InstanceReport → ReportSoFar
 at_task b run before x = record b { run = Some (record { run = run; task = Some (record { before = before; instance = x }) }) }
 
-part_line_of : (b c : Beginning) (part : GivenPart) → IsPart part → with_part b part ≡ Some c → Follows b (part_text part) c
+part_line_of : (b c : ReportSoFar) (part : GivenPart) → IsPart part → with_part b part ≡ Some c → Follows b (part_text part) c
 part_line_of b c part good added = inr (inr (record { part = part; good = good; spelled = refl; added = added }))
 
 -- an item that is told is lacking at first
@@ -106,7 +106,7 @@ lacks_told : (is_told : Bool) → is_told ≡ true → has_item is_told None ≡
 lacks_told true e = refl
 lacks_told false e = absurd (true≢false (sym e))
 
-item_path : (b : Beginning) (run : RunReport) (before : Option (List InstanceReport)) (r : TaskResult) (item : Option Xval) → MayHaveItem (tells_item b.version (is_some before)) item
+item_path : (b : ReportSoFar) (run : RunReport) (before : Option (List InstanceReport)) (r : TaskResult) (item : Option Xval) → MayHaveItem (tells_item b.version (is_some before)) item
     → Reaches (at_task b run before (untold r)) (at_task b run before (record { result = r; item = item; pulls = [] }))
 item_path b run before r None good = stays _ _ refl
 item_path b run before r (Some v) good =
@@ -122,7 +122,7 @@ pull_not_there done rest p distinct =
     same_any [] = refl
     same_any (q ∷ qs) = ap (λ t. bytes_eq q.task p.task || t) (same_any qs)
 
-pulls_path : (b : Beginning) (run : RunReport) (before : Option (List InstanceReport)) (r : TaskResult) (item : Option Xval) (done rest : List Pull) → has_item (tells_item b.version (is_some before)) item ≡ true
+pulls_path : (b : ReportSoFar) (run : RunReport) (before : Option (List InstanceReport)) (r : TaskResult) (item : Option Xval) (done rest : List Pull) → has_item (tells_item b.version (is_some before)) item ≡ true
     → length (done ++ rest) ≤ most_told b.version → AreDistinct (map (λ (q : Pull). q.task) (done ++ rest)) → AllByRecursion IsToldPull rest
     → Reaches (at_task b run before (record { result = r; item = item; pulls = done })) (at_task b run before (record { result = r; item = item; pulls = done ++ rest }))
 pulls_path b run before r item done [] complete few distinct good = stays _ _ (ap (λ ps. at_task b run before (record { result = r; item = item; pulls = ps })) (sym (append-nil done)))
@@ -135,7 +135,7 @@ pulls_path b run before r item done (p ∷ ps) complete few distinct good =
     (subst (λ l. Reaches (at_task b run before (record { result = r; item = item; pulls = done ++ p ∷ [] })) (at_task b run before (record { result = r; item = item; pulls = l }))) (sym all) rest)
 
 -- what the instance was given, behind its own line
-given_path : (b : Beginning) (run : RunReport) (before : Option (List InstanceReport)) (x : InstanceReport) → IsShownInstance b.version (is_some before) x → Reaches (at_task b run before (untold x.result)) (at_task b run before x)
+given_path : (b : ReportSoFar) (run : RunReport) (before : Option (List InstanceReport)) (x : InstanceReport) → IsShownInstance b.version (is_some before) x → Reaches (at_task b run before (untold x.result)) (at_task b run before x)
 given_path b run before x shown =
     reach_on _ (at_task b run before (record { result = x.result; item = x.item; pulls = [] })) _ (item_path b run before x.result x.item shown.item)
     (pulls_path b run before x.result x.item [] x.pulls shown.complete shown.pulls.few shown.pulls.distinct shown.pulls.each)
@@ -155,14 +155,14 @@ expanded_given : (version : Version) (done : List InstanceReport) (x : InstanceR
 expanded_given version done x [] shown = shown.0.complete
 expanded_given version done x (y ∷ ys) shown = expanded_given version (done ++ x ∷ []) y ys shown.1
 
-further_added : (b : Beginning) (run : RunReport) (done : List InstanceReport) (x : InstanceReport) (y : TaskResult) (id : List ℕ) → slice_get b.tasks (length run.tasks) ≡ Some id → has_item (tells_item b.version true) x.item ≡ true
+further_added : (b : ReportSoFar) (run : RunReport) (done : List InstanceReport) (x : InstanceReport) (y : TaskResult) (id : List ℕ) → slice_get b.tasks (length run.tasks) ≡ Some id → has_item (tells_item b.version true) x.item ≡ true
     → with_entry (at_task b run (Some done) x) id (Entry.Tried (Some (suc (length done))) y) ≡ Some (at_task b run (Some (done ++ x ∷ [])) (untold y))
 unfolding with_entry
 further_added b run done x y id at complete =
     let number : (length done + 1 == suc (length done)) ≡ true = ap (λ n. n == suc (length done)) (add-one (length done)) ∙ same_number (suc (length done)) in
     rw (complete, number, text_true _ id at) refl
 
-instances_path : (b : Beginning) (run : RunReport) (done : List InstanceReport) (x : InstanceReport) (rest : List InstanceReport) (id : List ℕ) → slice_get b.tasks (length run.tasks) ≡ Some id → length done + length rest < 1_024
+instances_path : (b : ReportSoFar) (run : RunReport) (done : List InstanceReport) (x : InstanceReport) (rest : List InstanceReport) (id : List ℕ) → slice_get b.tasks (length run.tasks) ≡ Some id → length done + length rest < 1_024
     → AllByRecursion (IsShownInstance b.version true) (x ∷ rest) → Reaches (at_task b run (Some done) x) (record b { run = Some (record { run = run; task = Some (expanded_by done x rest) }) })
 instances_path b run done x [] id at few shown = stays _ _ refl
 instances_path b run done x (y ∷ ys) id at few shown =
@@ -204,7 +204,7 @@ closed_all version o (t ∷ ts) shown =
     ∙ ap (λ (r : RunReport). record r { tasks = r.tasks ++ ts }) one
     ∙ ap (λ l. record o.run { tasks = l }) (append_assoc (tasks_in o) (t ∷ []) ts)
 
-opened_count : (version : Version) (o : OpenRun) (t : TaskReport) → IsShownTask version t → count_of (opened o t) ≡ count_of o + 1
+opened_count : (version : Version) (o : OpenRun) (t : TaskReport) → IsShownTask version t → task_count_of (opened o t) ≡ task_count_of o + 1
 opened_count version o t shown = omega (arith, count_is o, count_is (opened o t), ap (λ (r : RunReport). length r.tasks) (closed_opened version o t shown), length-append (tasks_in o) (t ∷ []))
 
 -- all is told of a task that is shown
@@ -221,34 +221,34 @@ given_all version o [] given shown = given
 given_all version o (t ∷ ts) given shown = given_all version (opened o t) ts (opened_given version o t shown.0) shown.1
 
 -- a line of a task that is next
-record IsTurn (b : Beginning) (o : OpenRun) (id : List ℕ) : Type 0 where
+record IsTurn (b : ReportSoFar) (o : OpenRun) (id : List ℕ) : Type 0 where
   given : is_given_task b.version o.task ≡ true
   next : is_next_in b.runs b.tasks (Some o) id ≡ true
-  at : slice_get (ids_with b.runs b.tasks id) (count_of o) ≡ Some id
+  at : slice_get (ids_with b.runs b.tasks id) (task_count_of o) ≡ Some id
 
-abbrev turned : Beginning → OpenRun → List ℕ → OpenRun → Beginning
+abbrev turned : ReportSoFar → OpenRun → List ℕ → OpenRun → ReportSoFar
 turned b o id new = record b { tasks = ids_with b.runs b.tasks id; run = Some new }
 
-untried_added : (b : Beginning) (o : OpenRun) (id : List ℕ) → IsTurn b o id → (u : Untried) (t : TaskReport)
+untried_added : (b : ReportSoFar) (o : OpenRun) (id : List ℕ) → IsTurn b o id → (u : Untried) (t : TaskReport)
     → with_entry (record b { run = Some o }) id (Entry.Never u) ≡ cond (is_given_task b.version o.task && is_next_in b.runs b.tasks (Some o) id) (Some (turned b o id (opened o t))) None
     → Reaches (record b { run = Some o }) (turned b o id (opened o t))
 untried_added b o id turn u t added =
     by_line (record b { run = Some o }) (turned b o id (opened o t)) _ (id ++ 32 ∷ entry_text (Entry.Never u)) (entry_line_of _ _ id (Entry.Never u) tt (added ∙ rw (turn.given, turn.next) refl)) (stays _ _ refl)
 
-task_path : (b : Beginning) (o : OpenRun) (id : List ℕ) (t : TaskReport) → IsTurn b o id → IsShownTask b.version t → Reaches (record b { run = Some o }) (turned b o id (opened o t))
+task_path : (b : ReportSoFar) (o : OpenRun) (id : List ℕ) (t : TaskReport) → IsTurn b o id → IsShownTask b.version t → Reaches (record b { run = Some o }) (turned b o id (opened o t))
 unfolding with_entry
 task_path b o id TaskReport.NoStatus turn shown = untried_added b o id turn Untried.NoStatus TaskReport.NoStatus refl
 task_path b o id TaskReport.Skipped turn shown = untried_added b o id turn Untried.Skipped TaskReport.Skipped refl
 task_path b o id TaskReport.UpstreamFailed turn shown = untried_added b o id turn Untried.UpstreamFailed TaskReport.UpstreamFailed refl
 task_path b o id (TaskReport.Ran x) turn shown =
     let e : Entry = Entry.Tried None x.result in
-    let c : Beginning = record b { tasks = ids_with b.runs b.tasks id } in
+    let c : ReportSoFar = record b { tasks = ids_with b.runs b.tasks id } in
     by_line (record b { run = Some o }) (at_task c (closed o) None (untold x.result)) _ (id ++ 32 ∷ entry_text e) (entry_line_of _ _ id e (tt, shown.result) (rw (turn.given, turn.next) refl))
     (given_path c (closed o) None x shown)
 task_path b o id (TaskReport.Mapped []) turn shown = absurd (omega (arith, shown.0))
 task_path b o id (TaskReport.Mapped (x ∷ xs)) turn shown =
     let e : Entry = Entry.Tried (Some 0) x.result in
-    let c : Beginning = record b { tasks = ids_with b.runs b.tasks id } in
+    let c : ReportSoFar = record b { tasks = ids_with b.runs b.tasks id } in
     by_line (record b { run = Some o }) (at_task c (closed o) (Some []) (untold x.result)) _ (id ++ 32 ∷ entry_text e) (entry_line_of _ _ id e (omega arith, shown.2.0.result) (rw (turn.given, turn.next) refl))
     (reach_on _ (at_task c (closed o) (Some []) x) _ (given_path c (closed o) (Some []) x shown.2.0)
     (instances_path c (closed o) [] x xs id (ap (slice_get (ids_with b.runs b.tasks id)) (count_is o) ∙ turn.at) (omega (arith, shown.1)) shown.2))
@@ -277,22 +277,22 @@ name_at : (done ids : List (List ℕ)) (id : List ℕ) → AllByRecursion (λ id
 name_at [] ids id named = named.0
 name_at (d ∷ ds) ids id named = name_at ds ids id named.1
 
-turn_of : (b : Beginning) (o : OpenRun) (done ids : List (List ℕ)) (id : List ℕ) → is_given_task b.version o.task ≡ true → b.tasks ≡ seen b.runs done (id ∷ ids) → count_of o ≡ length done → AreNames (done ++ id ∷ ids) → IsTurn b o id
+turn_of : (b : ReportSoFar) (o : OpenRun) (done ids : List (List ℕ)) (id : List ℕ) → is_given_task b.version o.task ≡ true → b.tasks ≡ seen b.runs done (id ∷ ids) → task_count_of o ≡ length done → AreNames (done ++ id ∷ ids) → IsTurn b o id
 turn_of b o done ids id given known counted names = record {
   given = given;
   next = ap (λ l. is_next_in b.runs l (Some o) id) known ∙ next b.runs;
-  at = ap (λ l. slice_get (ids_with b.runs l id) (count_of o)) known ∙ at b.runs;
+  at = ap (λ l. slice_get (ids_with b.runs l id) (task_count_of o)) known ∙ at b.runs;
 }
   where
     next : (runs : List RunReport) → is_next_in runs (seen runs done (id ∷ ids)) (Some o) id ≡ true
     next [] = rw (name_at done ids id names.named, below_true (length done) 2_000 (omega (arith, names.few, length-append done (id ∷ ids))), not_there done ids id names.distinct) refl
-    next (r ∷ rs) = text_true (slice_get (done ++ id ∷ ids) (count_of o)) id (get_at done ids id (count_of o) counted)
+    next (r ∷ rs) = text_true (slice_get (done ++ id ∷ ids) (task_count_of o)) id (get_at done ids id (task_count_of o) counted)
 
-    at : (runs : List RunReport) → slice_get (ids_with runs (seen runs done (id ∷ ids)) id) (count_of o) ≡ Some id
-    at [] = get_at done [] id (count_of o) counted
-    at (r ∷ rs) = get_at done ids id (count_of o) counted
+    at : (runs : List RunReport) → slice_get (ids_with runs (seen runs done (id ∷ ids)) id) (task_count_of o) ≡ Some id
+    at [] = get_at done [] id (task_count_of o) counted
+    at (r ∷ rs) = get_at done ids id (task_count_of o) counted
 
-tasks_path : (b : Beginning) (o : OpenRun) (done ids : List (List ℕ)) (ts : List TaskReport) → is_given_task b.version o.task ≡ true → b.tasks ≡ seen b.runs done ids → count_of o ≡ length done → length ids ≡ length ts → AreNames (done ++ ids) → AllByRecursion (IsShownTask b.version) ts
+tasks_path : (b : ReportSoFar) (o : OpenRun) (done ids : List (List ℕ)) (ts : List TaskReport) → is_given_task b.version o.task ≡ true → b.tasks ≡ seen b.runs done ids → task_count_of o ≡ length done → length ids ≡ length ts → AreNames (done ++ ids) → AllByRecursion (IsShownTask b.version) ts
     → Reaches (record b { run = Some o }) (record b { tasks = done ++ ids; run = Some (opened_all o ts) })
 tasks_path b o done [] [] given known counted same names shown =
     stays _ _ (ap (λ l. record b { tasks = l; run = Some o }) (known ∙ seen_all b.runs done ∙ sym (append-nil done)))
@@ -300,7 +300,7 @@ tasks_path b o done [] (t ∷ ts) given known counted same names shown = absurd 
 tasks_path b o done (id ∷ ids) [] given known counted same names shown = absurd (omega (arith, same))
 tasks_path b o done (id ∷ ids) (t ∷ ts) given known counted same names shown =
     let all : done ++ id ∷ ids ≡ (done ++ id ∷ []) ++ ids = sym (append_assoc done (id ∷ []) ids) in
-    let c : Beginning = record b { tasks = ids_with b.runs b.tasks id } in
+    let c : ReportSoFar = record b { tasks = ids_with b.runs b.tasks id } in
     let rest = tasks_path c (opened o t) (done ++ id ∷ []) ids ts (opened_given b.version o t shown.0) (ap (λ l. ids_with b.runs l id) known ∙ seen_more b.runs done ids id)
     (omega (arith, opened_count b.version o t shown.0, counted, length-append done (id ∷ []))) (omega (arith, same)) (subst AreNames all names) shown.1 in
     reach_on _ (turned b o id (opened o t)) _ (task_path b o id t (turn_of b o done ids id given known counted names) shown.0)
@@ -316,10 +316,10 @@ seen_later [] r ids = refl
 seen_later (x ∷ xs) r ids = refl
 
 -- the line of a run, and those of its tasks
-run_path : (b : Beginning) (ids : List (List ℕ)) (r : RunReport) → may_begin_in b r.interval ≡ true → b.tasks ≡ seen (runs_of b) [] ids → AreNames ids → IsShownRun b.version (length ids) r
+run_path : (b : ReportSoFar) (ids : List (List ℕ)) (r : RunReport) → may_begin_in b r.interval ≡ true → b.tasks ≡ seen (runs_of b) [] ids → AreNames ids → IsShownRun b.version (length ids) r
     → Reaches b (record b { tasks = ids; runs = runs_of b; run = Some (opened_all (bare r) r.tasks) })
 run_path b ids r begins known names shown =
-    let c : Beginning = record b { runs = runs_of b } in
+    let c : ReportSoFar = record b { runs = runs_of b } in
     by_line b (record c { run = Some (bare r) }) _ (codes "@run" ++ 32 ∷ run_words (r.interval, r.state))
     (inr (inl (record { run = record r { tasks = [] }; bare = refl; good = shown.interval; spelled = refl; added = rw begins refl })))
     (tasks_path c (bare r) [] ids r.tasks refl known refl (sym shown.all) names shown.each)
@@ -328,13 +328,13 @@ closed_bare : (version : Version) (r : RunReport) → AllByRecursion (IsShownTas
 closed_bare version r shown = closed_all version (bare r) r.tasks shown
 
 -- the report with the runs that are left
-record Completes (b : Beginning) (report : Report) : Type 0 where
-  last : Beginning
+record Completes (b : ReportSoFar) (report : Report) : Type 0 where
+  last : ReportSoFar
   path : Reaches b last
   whole : is_whole_at last ≡ true
   is : so_far last ≡ report
 
-runs_path : (b : Beginning) (o : OpenRun) (rs : List RunReport) → is_given_task b.version o.task ≡ true → count_of o ≡ length b.tasks → AreNames b.tasks → AllByRecursion (IsShownRun b.version (length b.tasks)) rs → Rise (closed o ∷ rs) → length b.runs + 1 + length rs ≤ 4_096
+runs_path : (b : ReportSoFar) (o : OpenRun) (rs : List RunReport) → is_given_task b.version o.task ≡ true → task_count_of o ≡ length b.tasks → AreNames b.tasks → AllByRecursion (IsShownRun b.version (length b.tasks)) rs → Rise (closed o ∷ rs) → length b.runs + 1 + length rs ≤ 4_096
     → Completes (record b { run = Some o }) (record { version = b.version; dag_id = b.dag_id; tasks = b.tasks; runs = (b.runs ++ closed o ∷ []) ++ rs })
 runs_path b o [] given whole names shown rise few = record {
   last = record b { run = Some o };
@@ -343,14 +343,14 @@ runs_path b o [] given whole names shown rise few = record {
   is = ap (λ l. record { version = b.version; dag_id = b.dag_id; tasks = b.tasks; runs = l }) (sym (append-nil (b.runs ++ closed o ∷ [])));
 }
 runs_path b o (r ∷ rs) given whole names shown rise few =
-    let before : Beginning = record b { run = Some o } in
-    let c : Beginning = record b { runs = b.runs ++ closed o ∷ [] } in
+    let before : ReportSoFar = record b { run = Some o } in
+    let c : ReportSoFar = record b { runs = b.runs ++ closed o ∷ [] } in
     let p = opened_all (bare r) r.tasks in
     let same : closed p ≡ r = closed_bare b.version r shown.0.each in
     let begins : may_begin_in before r.interval ≡ true =
     rw (given, ap (λ n. n == length b.tasks) whole ∙ same_number (length b.tasks), below_true (run_count_of before) 4_096 (omega (arith, few)), later_true _ _ rise.0) refl in
     let path = run_path before b.tasks r begins (sym (seen_later b.runs (closed o) b.tasks)) names shown.0 in
-    let counted : count_of p ≡ length b.tasks = sym (count_is p) ∙ ap (λ (x : RunReport). length x.tasks) same ∙ shown.0.all in
+    let counted : task_count_of p ≡ length b.tasks = sym (count_is p) ∙ ap (λ (x : RunReport). length x.tasks) same ∙ shown.0.all in
     let rest = runs_path c p rs (given_all b.version (bare r) r.tasks refl shown.0.each) counted names shown.1 (subst (λ x. Rise (x ∷ rs)) (sym same) rise.1) (omega (arith, few, length-append b.runs (closed o ∷ []))) in
     record {
       last = rest.last;
@@ -377,8 +377,8 @@ all_path report shown = go report.runs refl
         let each = subst (AllByRecursion (IsShownRun report.version (length report.tasks))) some shown.runs in
         let p = opened_all (bare r) r.tasks in
         let same : closed p ≡ r = closed_bare report.version r each.0.each in
-        let b : Beginning = record { version = report.version; dag_id = report.dag_id; tasks = report.tasks; runs = []; run = None } in
-        let counted : count_of p ≡ length report.tasks = sym (count_is p) ∙ ap (λ (x : RunReport). length x.tasks) same ∙ each.0.all in
+        let b : ReportSoFar = record { version = report.version; dag_id = report.dag_id; tasks = report.tasks; runs = []; run = None } in
+        let counted : task_count_of p ≡ length report.tasks = sym (count_is p) ∙ ap (λ (x : RunReport). length x.tasks) same ∙ each.0.all in
         let rest = runs_path b p rs (given_all report.version (bare r) r.tasks refl each.0.each) counted names each.1 (subst (λ x. Rise (x ∷ rs)) (sym same) (subst Rise some shown.rise)) (omega (arith, shown.few_runs, ap length some)) in
         record {
           last = rest.last;

@@ -22,12 +22,12 @@ use Rattle.bf_report_reader.specs.declared.fault.ReportFault.{ReportFault}
 use Rattle.bf_report_reader.specs.declared.part.GivenPart.{GivenPart}
 use Rattle.bf_report_reader.specs.Open.{OpenTask}
 use Rattle.bf_report_reader.specs.declared.open.OpenRun.{OpenRun}
-use Rattle.bf_report_reader.specs.declared.beginning.Beginning.{Beginning}
+use Rattle.bf_report_reader.specs.declared.beginning.ReportSoFar.{ReportSoFar}
 use Rattle.bf_report_reader.specs.Entries.{entry_text}
 use Rattle.bf_report_reader.specs.Parts.{IsToldItem, pull_words, part_text}
 use Rattle.bf_report_reader.specs.Runs.{run_words}
 use Rattle.bf_report_reader.specs.Rules.{IsShownReport}
-use Rattle.bf_report_reader.specs.Beginning.{count_of, so_far, opening_text, is_given_task, is_given_in, is_given_at, is_whole_in, is_next_in, ids_with, takes_task, takes_in, put_task, put_part, with_entry, IsCountedIn, room}
+use Rattle.bf_report_reader.specs.Beginning.{task_count_of, so_far, opening_text, is_given_task, is_given_in, has_its_item_at, is_whole_in, is_next_in, ids_with, takes_task, may_take_part_in, put_task, put_part, with_entry, IsCountedIn, room}
 use Rattle.bf_report_reader.specs.Steps.{IsNext}
 use Rattle.bf_report_reader.specs.Extensions.{head_words, SaysHead, start, Extends, IsKnown}
 use Rattle.bf_report_reader.specs.Faults.{IsInLine, AreLines, Begins, IsOpening, IsReportText, IsFromOutside, Tells}
@@ -110,12 +110,12 @@ one_text_each one two more shown too is =
 
 lacks_task : (runs : List RunReport) (ids : List (List ℕ)) (run : Option OpenRun) → IsCountedIn runs ids run → is_whole_in run ids ≡ false → (id : List ℕ) × (is_next_in runs ids run id ≡ true)
 lacks_task runs ids None counted short = absurd (true≢false short)
-lacks_task [] ids (Some o) counted short = absurd (eqb-false (count_of o) (length ids) short counted)
+lacks_task [] ids (Some o) counted short = absurd (eqb-false (task_count_of o) (length ids) short counted)
 lacks_task (r ∷ rs) ids (Some o) counted short =
-    let below : count_of o < length ids = omega (arith, counted, eqb-false (count_of o) (length ids) short) in
-    (get_or ids (count_of o) [], text_true _ _ (slice_get-get_or ids (count_of o) [] below))
+    let below : task_count_of o < length ids = omega (arith, counted, eqb-false (task_count_of o) (length ids) short) in
+    (get_or ids (task_count_of o) [], text_true _ _ (slice_get-get_or ids (task_count_of o) [] below))
 
-filled : (b : Beginning) (id : List ℕ) → is_given_at b ≡ true → is_next_in b.runs b.tasks b.run id ≡ true
+filled : (b : ReportSoFar) (id : List ℕ) → has_its_item_at b ≡ true → is_next_in b.runs b.tasks b.run id ≡ true
     → with_entry b id (Entry.Never Untried.NoStatus) ≡ Some (record b { tasks = ids_with b.runs b.tasks id; run = put_task b.run TaskReport.NoStatus })
 unfolding with_entry
 filled b id given next = rw (given, next) refl
@@ -124,7 +124,7 @@ filled b id given next = rw (given, next) refl
 null_told : IsToldItem Nil
 null_told = record { utf8 = IsUtf8-text_of Nil tt; says = value_of_text_text_of 64 Nil tt (omega arith) (omega arith); short = omega arith }
 
-lacking : (version : Version) (run : Option OpenRun) → is_given_in version run ≡ false → takes_in version run (GivenPart.Item Nil) ≡ true
+lacking : (version : Version) (run : Option OpenRun) → is_given_in version run ≡ false → may_take_part_in version run (GivenPart.Item Nil) ≡ true
 lacking version None lacks = absurd (true≢false lacks)
 lacking version (Some o) lacks = task_lacks o.task lacks
   where
@@ -133,7 +133,7 @@ lacking version (Some o) lacks = task_lacks o.task lacks
     task_lacks (Some t) lacks = rw lacks refl
 
 -- what begins with a line more begins with the lines before it
-begun : (b c : Beginning) (text : List ℕ) → IsNext b text c → Begins (opening_text (so_far c)) → Begins (opening_text (so_far b))
+begun : (b c : ReportSoFar) (text : List ℕ) → IsNext b text c → Begins (opening_text (so_far c)) → Begins (opening_text (so_far b))
 begun b c text step rest = record {
   report = rest.report;
   more = (text ++ 10 ∷ []) ++ rest.more;
@@ -141,22 +141,22 @@ begun b c text step rest = record {
   text_is = rest.text_is ∙ ap (λ l. l ++ rest.more) step.read ∙ append_assoc (opening_text (so_far b)) (text ++ 10 ∷ []) rest.more;
 }
 
-begins_by : (fuel : ℕ) (b : Beginning) → room b < fuel → Keeps b → Begins (opening_text (so_far b))
+begins_by : (fuel : ℕ) (b : ReportSoFar) → room b < fuel → Keeps b → Begins (opening_text (so_far b))
 begins_by zero b less keeps = absurd (omega (arith, less))
-begins_by (suc fuel) b less keeps = elim (cases_Bool (is_given_at b)) [
+begins_by (suc fuel) b less keeps = elim (cases_Bool (has_its_item_at b)) [
   | inl given ↦ elim (cases_Bool (is_whole_in b.run b.tasks)) [
     | inl whole ↦ record { report = so_far b; more = end_of (so_far b); shown = report_ruled b keeps.counted keeps.small keeps.ruled (rw (given, whole) refl); text_is = refl }
     | inr short ↦
         let (id, next) = lacks_task b.runs b.tasks b.run keeps.counted short in
         let e : Entry = Entry.Never Untried.NoStatus in
-        let c : Beginning = record b { tasks = ids_with b.runs b.tasks id; run = put_task b.run TaskReport.NoStatus } in
+        let c : ReportSoFar = record b { tasks = ids_with b.runs b.tasks id; run = put_task b.run TaskReport.NoStatus } in
         let text = id ++ 32 ∷ entry_text e in
         let step = entry_next b c id text e keeps.counted keeps.small keeps.ruled tt refl (filled b id given next) in
         begun b c text step (begins_by fuel c (omega (arith, less, step.shrinks)) (keeps_next b c text step))
   ]
   | inr lacks ↦
       let part : GivenPart = GivenPart.Item Nil in
-      let c : Beginning = record b { run = put_part b.run part } in
+      let c : ReportSoFar = record b { run = put_part b.run part } in
       let step = part_next b c (part_text part) part keeps.counted keeps.small keeps.ruled null_told refl (rw (lacking b.version b.run lacks) refl) in
       begun b c (part_text part) step (begins_by fuel c (omega (arith, less, step.shrinks)) (keeps_next b c (part_text part) step))
 ]
@@ -190,7 +190,7 @@ task_lines id (TaskReport.Mapped xs) = lines_flat (λ (p : ℕ × InstanceReport
 run_lines : (ids : List (List ℕ)) (r : RunReport) → AreLines (run_text ids r)
 run_lines ids r = lines_append (run_line r) (tasks_text ids r.tasks) (inr (codes "@run" ++ 32 ∷ run_words (r.interval, r.state), refl)) (lines_flat (λ (p : List ℕ × TaskReport). task_text p.0 p.1) (zip ids r.tasks) (λ p. task_lines p.0 p.1))
 
-pub opens : (b : Beginning) → Keeps b → IsKnown b → IsOpening (opening_text (so_far b))
+pub opens : (b : ReportSoFar) → Keeps b → IsKnown b → IsOpening (opening_text (so_far b))
 opens b keeps known = record {
   lines = lines_append (head_line b.version b.dag_id) (flat_map (run_text b.tasks) (so_far b).runs) (inr (head_words (b.version, b.dag_id), refl)) (lines_flat (run_text b.tasks) (so_far b).runs (run_lines b.tasks));
   begins = begins_by (suc (room b)) b (omega arith) keeps;

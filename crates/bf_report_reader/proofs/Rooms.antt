@@ -12,20 +12,20 @@ use Rattle.bf_report_reader.specs.declared.entry.Entry.{Entry}
 use Rattle.bf_report_reader.specs.declared.part.GivenPart.{GivenPart}
 use Rattle.bf_report_reader.specs.Open.{OpenTask}
 use Rattle.bf_report_reader.specs.declared.open.OpenRun.{OpenRun}
-use Rattle.bf_report_reader.specs.declared.beginning.Beginning.{Beginning}
+use Rattle.bf_report_reader.specs.declared.beginning.ReportSoFar.{ReportSoFar}
 use Rattle.bf_report_reader.specs.Entries.{IsEntry}
-use Rattle.bf_report_reader.specs.Beginning.{tasks_in, count_of, last_run, run_count_of, tells_item, most_told, has_item, takes_at, with_told, untold, is_text, is_next_in, is_next_at, ids_with, is_further, is_further_task, goes_on_in, goes_on_at, takes_task, takes_in, put_task, put_open, further, put_further, put_part, may_begin_in, with_run, with_task, with_open, with_further, with_part, with_entry, IsCountedIn, IsCounted, item_room, instance_room, before_room, task_room, open_room, room, IsSmall}
+use Rattle.bf_report_reader.specs.Beginning.{tasks_in, task_count_of, last_run, run_count_of, tells_item, most_told, has_item, takes_at, with_told, untold, is_text, is_next_in, is_next_id_at, ids_with, is_further, is_further_task, goes_on_in, is_next_instance_at, takes_task, may_take_part_in, put_task, put_open, further, put_further, put_part, may_begin_in, with_run, with_task, with_open, with_further, with_part, with_entry, IsCountedIn, IsCounted, item_room, instance_room, before_room, task_room, open_room, room, IsSmall}
 use Rattle.bf_report_reader.proofs.Growth.{if_some, count_is, get_within, is_text_of, next_parts, further_parts, begin_parts, no_item, not_true, new_parts, pull_parts}
 
 -- ---- a task
 
 -- there is room for one more
 fits : (runs : List RunReport) (ids : List (List ℕ)) (o : OpenRun) (id : List ℕ) → length ids ≤ 2_000 → IsCountedIn runs ids (Some o) → is_next_in runs ids (Some o) id ≡ true
-    → (count_of o < 2_000) × (length (ids_with runs ids id) ≤ 2_000)
+    → (task_count_of o < 2_000) × (length (ids_with runs ids id) ≤ 2_000)
 fits [] ids o id small counted next =
     let below : length ids < 2_000 = ltb-true (length ids) 2_000 (new_parts ids id next).1.0 in
     (omega (arith, below, counted), omega (arith, below, length-append ids (id ∷ [])))
-fits (r ∷ rs) ids o id small counted next = (omega (arith, small, get_within ids id (count_of o) (is_text_of (slice_get ids (count_of o)) id next)), small)
+fits (r ∷ rs) ids o id small counted next = (omega (arith, small, get_within ids id (task_count_of o) (is_text_of (slice_get ids (task_count_of o)) id next)), small)
 
 -- how many lines an open task may have at most
 before_most : (before : Option (List InstanceReport)) → before_room before ≤ 20_480
@@ -40,10 +40,10 @@ open_most : (task : Option OpenTask) → task_room task ≤ 20_497
 open_most None = omega arith
 open_most (Some t) = omega (arith, before_most t.before, item_most t.instance.item)
 
-untried_room : (b c : Beginning) (id : List ℕ) (t : TaskReport) → IsCounted b → IsSmall b → with_task b id t ≡ Some c → IsSmall c × (room c < room b)
+untried_room : (b c : ReportSoFar) (id : List ℕ) (t : TaskReport) → IsCounted b → IsSmall b → with_task b id t ≡ Some c → IsSmall c × (room c < room b)
 untried_room b c id t counted small e =
-    let (next, is) = if_some (is_next_at b id) _ c e in
-    let P : Beginning → Type 0 = λ x. IsSmall x × (room x < room b) in
+    let (next, is) = if_some (is_next_id_at b id) _ c e in
+    let P : ReportSoFar → Type 0 = λ x. IsSmall x × (room x < room b) in
     subst P is (go b.run counted (next_parts b id next).1)
   where
     go : (run : Option OpenRun) → IsCountedIn b.runs b.tasks run → is_next_in b.runs b.tasks run id ≡ true
@@ -53,10 +53,10 @@ untried_room b c id t counted small e =
         let (below, few) = fits b.runs b.tasks o id small counted next in
         (few, omega (arith, below, length-append (tasks_in o) (t ∷ []), count_is o))
 
-opened_room : (b c : Beginning) (id : List ℕ) (t : OpenTask) → IsCounted b → IsSmall b → with_open b id t ≡ Some c → IsSmall c × (room c < room b)
+opened_room : (b c : ReportSoFar) (id : List ℕ) (t : OpenTask) → IsCounted b → IsSmall b → with_open b id t ≡ Some c → IsSmall c × (room c < room b)
 opened_room b c id t counted small e =
-    let (next, is) = if_some (is_next_at b id) _ c e in
-    let P : Beginning → Type 0 = λ x. IsSmall x × (room x < room b) in
+    let (next, is) = if_some (is_next_id_at b id) _ c e in
+    let P : ReportSoFar → Type 0 = λ x. IsSmall x × (room x < room b) in
     subst P is (go b.run counted (next_parts b id next).1)
   where
     go : (run : Option OpenRun) → IsCountedIn b.runs b.tasks run → is_next_in b.runs b.tasks run id ≡ true
@@ -66,10 +66,10 @@ opened_room b c id t counted small e =
         let (below, few) = fits b.runs b.tasks o id small counted next in
         (few, omega (arith, below, count_is o, open_most (Some t)))
 
-further_room : (b c : Beginning) (id : List ℕ) (index : ℕ) (r : TaskResult) → index < 1_024 → IsSmall b → with_further b id index r ≡ Some c → IsSmall c × (room c < room b)
+further_room : (b c : ReportSoFar) (id : List ℕ) (index : ℕ) (r : TaskResult) → index < 1_024 → IsSmall b → with_further b id index r ≡ Some c → IsSmall c × (room c < room b)
 further_room b c id index r within small e =
-    let (next, is) = if_some (goes_on_at b id index) _ c e in
-    let P : Beginning → Type 0 = λ x. IsSmall x × (room x < room b) in
+    let (next, is) = if_some (is_next_instance_at b id index) _ c e in
+    let P : ReportSoFar → Type 0 = λ x. IsSmall x × (room x < room b) in
     subst P is (small, go b.run (further_parts b id index next).1)
   where
     instance_less : (before : Option (List InstanceReport)) (x : InstanceReport) → is_further before index ≡ true → task_room (Some (further (record { before = before; instance = x }) r)) < task_room (Some (record { before = before; instance = x }))
@@ -86,7 +86,7 @@ further_room b c id index r within small e =
         let (number, at) = and_parts (is_further_task o.task index) (is_text (slice_get b.tasks (length o.run.tasks)) id) next in
         omega (arith, task_less o.run o.task number)
 
-pub entry_room : (b c : Beginning) (id : List ℕ) (e : Entry) → IsCounted b → IsSmall b → IsEntry e → with_entry b id e ≡ Some c → IsSmall c × (room c < room b)
+pub entry_room : (b c : ReportSoFar) (id : List ℕ) (e : Entry) → IsCounted b → IsSmall b → IsEntry e → with_entry b id e ≡ Some c → IsSmall c × (room c < room b)
 unfolding with_entry
 entry_room b c id (Entry.Never Untried.NoStatus) counted small good e = untried_room b c id TaskReport.NoStatus counted small e
 entry_room b c id (Entry.Never Untried.Skipped) counted small good e = untried_room b c id TaskReport.Skipped counted small e
@@ -106,25 +106,25 @@ told_less version is_told x (GivenPart.Item v) next = omega (arith, ap item_room
 told_less version is_told x (GivenPart.Pull p) next =
     omega (arith, ltb-true (length x.pulls) (most_told version) (pull_parts version (has_item is_told x.item) x p next).1.0, few_told version, length-append x.pulls (p ∷ []))
 
-pub part_room : (b c : Beginning) (part : GivenPart) → IsSmall b → with_part b part ≡ Some c → IsSmall c × (room c < room b)
+pub part_room : (b c : ReportSoFar) (part : GivenPart) → IsSmall b → with_part b part ≡ Some c → IsSmall c × (room c < room b)
 part_room b c part small e =
-    let (next, is) = if_some (takes_in b.version b.run part) _ c e in
-    let P : Beginning → Type 0 = λ x. IsSmall x × (room x < room b) in
+    let (next, is) = if_some (may_take_part_in b.version b.run part) _ c e in
+    let P : ReportSoFar → Type 0 = λ x. IsSmall x × (room x < room b) in
     subst P is (small, go b.run next)
   where
     task_less : (run : RunReport) (task : Option OpenTask) → takes_task b.version task part ≡ true → open_room (put_part (Some (record { run = run; task = task })) part) < open_room (Some (record { run = run; task = task }))
     task_less run None next = absurd (true≢false (sym next))
     task_less run (Some t) next = omega (arith, told_less b.version (tells_item b.version (is_some t.before)) t.instance part next)
 
-    go : (run : Option OpenRun) → takes_in b.version run part ≡ true → room (record b { run = put_part run part }) < room (record b { run = run })
+    go : (run : Option OpenRun) → may_take_part_in b.version run part ≡ true → room (record b { run = put_part run part }) < room (record b { run = run })
     go None next = absurd (true≢false (sym next))
     go (Some o) next = omega (arith, task_less o.run o.task next)
 
 -- ---- a run
 
-pub run_room : (b c : Beginning) (run : RunReport) → run.tasks ≡ [] → IsSmall b → with_run b run ≡ Some c → IsSmall c × (room c < room b)
+pub run_room : (b c : ReportSoFar) (run : RunReport) → run.tasks ≡ [] → IsSmall b → with_run b run ≡ Some c → IsSmall c × (room c < room b)
 run_room b c run none small e =
     let (next, is) = if_some (may_begin_in b run.interval) _ c e in
     let below : run_count_of b < 4_096 = ltb-true (run_count_of b) 4_096 (begin_parts b run.interval next).1.0 in
-    let P : Beginning → Type 0 = λ x. IsSmall x × (room x < room b) in
+    let P : ReportSoFar → Type 0 = λ x. IsSmall x × (room x < room b) in
     subst P is (small, omega (arith, below, length-append b.runs (last_run b.run)))

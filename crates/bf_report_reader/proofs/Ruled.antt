@@ -22,11 +22,11 @@ use Rattle.bf_report_reader.specs.declared.entry.Entry.{Entry}
 use Rattle.bf_report_reader.specs.declared.part.GivenPart.{GivenPart}
 use Rattle.bf_report_reader.specs.Open.{OpenTask}
 use Rattle.bf_report_reader.specs.declared.open.OpenRun.{OpenRun}
-use Rattle.bf_report_reader.specs.declared.beginning.Beginning.{Beginning}
+use Rattle.bf_report_reader.specs.declared.beginning.ReportSoFar.{ReportSoFar}
 use Rattle.bf_report_reader.specs.Entries.{IsEntry, IsShownResult}
 use Rattle.bf_report_reader.specs.Runs.{IsRunInterval}
 use Rattle.bf_report_reader.specs.Parts.{IsPart}
-use Rattle.bf_report_reader.specs.Beginning.{task_with, open_task, tasks_in, count_of, closed, last_run, so_far, run_count_of, tells_item, most_told, has_item, takes_at, with_told, untold, is_given_task, is_given_in, is_whole_in, is_whole_at, starts_before, is_text, is_next_in, is_next_at, ids_with, is_further, is_further_task, goes_on_in, goes_on_at, takes_task, takes_in, put_task, put_open, further, put_further, told, put_part, may_begin_in, with_run, with_task, with_open, with_further, with_part, with_entry, IsCountedIn, IsCounted, IsSmall}
+use Rattle.bf_report_reader.specs.Beginning.{task_with, open_task, tasks_in, task_count_of, closed, last_run, so_far, run_count_of, tells_item, most_told, has_item, takes_at, with_told, untold, is_given_task, is_given_in, is_whole_in, is_whole_at, starts_before, is_text, is_next_in, is_next_id_at, ids_with, is_further, is_further_task, goes_on_in, is_next_instance_at, takes_task, may_take_part_in, put_task, put_open, further, put_further, told, put_part, may_begin_in, with_run, with_task, with_open, with_further, with_part, with_entry, IsCountedIn, IsCounted, IsSmall}
 use Rattle.bf_report_reader.specs.Rules.{AreToldPulls, IsShownInstance, IsShownTask, IsShownRun, Rise, IsShownReport, AreShownBefore, IsOpenInstance, IsOpenTask, IsOpenRun, IsRuled}
 use Rattle.bf_report_reader.proofs.Growth.{if_some, count_is, next_parts, further_parts, begin_parts, whole_parts, not_true, new_parts, pull_parts}
 
@@ -133,7 +133,7 @@ names version (r ∷ rs) ids o id next named distinct shown = record { named = n
 -- ---- a line of a task
 
 -- the last run has changed but for its interval
-put_ruled : (b : Beginning) (o new : OpenRun) (id : List ℕ) → IsRuled (record b { run = Some o }) → is_next_in b.runs b.tasks (Some o) id ≡ true → new.run.interval ≡ o.run.interval → IsOpenRun b.version (Some new)
+put_ruled : (b : ReportSoFar) (o new : OpenRun) (id : List ℕ) → IsRuled (record b { run = Some o }) → is_next_in b.runs b.tasks (Some o) id ≡ true → new.run.interval ≡ o.run.interval → IsOpenRun b.version (Some new)
     → IsRuled (record b { tasks = ids_with b.runs b.tasks id; run = Some new })
 put_ruled b o new id ruled next same shown =
     let named = names b.version b.runs b.tasks o id next ruled.ids ruled.distinct ruled.runs in
@@ -147,9 +147,9 @@ put_ruled b o new id ruled next same shown =
       rise = rise_same b.runs (closed o) (closed new) (sym same) ruled.rise;
     }
 
-task_ruled : (b c : Beginning) (id : List ℕ) (t : TaskReport) → IsShownTask b.version t → IsRuled b → with_task b id t ≡ Some c → IsRuled c
+task_ruled : (b c : ReportSoFar) (id : List ℕ) (t : TaskReport) → IsShownTask b.version t → IsRuled b → with_task b id t ≡ Some c → IsRuled c
 task_ruled b c id t good ruled e =
-    let (next, is) = if_some (is_next_at b id) _ c e in
+    let (next, is) = if_some (is_next_id_at b id) _ c e in
     let (given, first) = next_parts b id next in
     subst IsRuled is (go b.run ruled given first)
   where
@@ -159,9 +159,9 @@ task_ruled b c id t good ruled e =
         let new : OpenRun = record { run = record o.run { tasks = tasks_in o ++ t ∷ [] }; task = None } in
         put_ruled b o new id ruled next refl (ruled.last.0, all_more (IsShownTask b.version) (tasks_in o) t (tasks_each b.version o given ruled.last) good, tt)
 
-opened_ruled : (b c : Beginning) (id : List ℕ) (t : OpenTask) → IsOpenTask b.version (Some t) → IsRuled b → with_open b id t ≡ Some c → IsRuled c
+opened_ruled : (b c : ReportSoFar) (id : List ℕ) (t : OpenTask) → IsOpenTask b.version (Some t) → IsRuled b → with_open b id t ≡ Some c → IsRuled c
 opened_ruled b c id t good ruled e =
-    let (next, is) = if_some (is_next_at b id) _ c e in
+    let (next, is) = if_some (is_next_id_at b id) _ c e in
     let (given, first) = next_parts b id next in
     subst IsRuled is (go b.run ruled given first)
   where
@@ -172,7 +172,7 @@ opened_ruled b c id t good ruled e =
         put_ruled b o new id ruled next refl (ruled.last.0, tasks_each b.version o given ruled.last, good)
 
 -- the task that stands last has changed
-last_ruled : (b : Beginning) (run : RunReport) (t u : OpenTask) → IsRuled (record b { run = Some (record { run = run; task = Some t }) }) → IsOpenTask b.version (Some u) → IsRuled (record b { run = Some (record { run = run; task = Some u }) })
+last_ruled : (b : ReportSoFar) (run : RunReport) (t u : OpenTask) → IsRuled (record b { run = Some (record { run = run; task = Some t }) }) → IsOpenTask b.version (Some u) → IsRuled (record b { run = Some (record { run = run; task = Some u }) })
 last_ruled b run t u ruled good = record {
   dag_id = ruled.dag_id;
   ids = ruled.ids;
@@ -183,9 +183,9 @@ last_ruled b run t u ruled good = record {
   rise = rise_same b.runs (closed (record { run = run; task = Some t })) (closed (record { run = run; task = Some u })) refl ruled.rise;
 }
 
-further_ruled : (b c : Beginning) (id : List ℕ) (index : ℕ) (r : TaskResult) → index < 1_024 → IsShownResult r → IsRuled b → with_further b id index r ≡ Some c → IsRuled c
+further_ruled : (b c : ReportSoFar) (id : List ℕ) (index : ℕ) (r : TaskResult) → index < 1_024 → IsShownResult r → IsRuled b → with_further b id index r ≡ Some c → IsRuled c
 further_ruled b c id index r within good ruled e =
-    let (next, is) = if_some (goes_on_at b id index) _ c e in
+    let (next, is) = if_some (is_next_instance_at b id index) _ c e in
     let (given, last) = further_parts b id index next in
     subst IsRuled is (go b.run ruled given last)
   where
@@ -204,7 +204,7 @@ further_ruled b c id index r within good ruled e =
     go None ruled given next = absurd (true≢false (sym next))
     go (Some o) ruled given next = last o.run o.task ruled given (and_parts (is_further_task o.task index) (is_text (slice_get b.tasks (length o.run.tasks)) id) next).0
 
-pub entry_ruled : (b c : Beginning) (id : List ℕ) (e : Entry) → IsEntry e → IsRuled b → with_entry b id e ≡ Some c → IsRuled c
+pub entry_ruled : (b c : ReportSoFar) (id : List ℕ) (e : Entry) → IsEntry e → IsRuled b → with_entry b id e ≡ Some c → IsRuled c
 unfolding with_entry
 entry_ruled b c id (Entry.Never Untried.NoStatus) good ruled e = task_ruled b c id TaskReport.NoStatus tt ruled e
 entry_ruled b c id (Entry.Never Untried.Skipped) good ruled e = task_ruled b c id TaskReport.Skipped tt ruled e
@@ -215,22 +215,22 @@ entry_ruled b c id (Entry.Tried (Some (suc n)) r) good ruled e = further_ruled b
 
 -- ---- a part of what an instance was given
 
-pub part_ruled : (b c : Beginning) (part : GivenPart) → IsPart part → IsRuled b → with_part b part ≡ Some c → IsRuled c
+pub part_ruled : (b c : ReportSoFar) (part : GivenPart) → IsPart part → IsRuled b → with_part b part ≡ Some c → IsRuled c
 part_ruled b c part good ruled e =
-    let (next, is) = if_some (takes_in b.version b.run part) _ c e in
+    let (next, is) = if_some (may_take_part_in b.version b.run part) _ c e in
     subst IsRuled is (go b.run ruled next)
   where
     last : (run : RunReport) (task : Option OpenTask) → IsRuled (record b { run = Some (record { run = run; task = task }) }) → takes_task b.version task part ≡ true → IsRuled (record b { run = put_part (Some (record { run = run; task = task })) part })
     last run None ruled next = absurd (true≢false (sym next))
     last run (Some t) ruled next = last_ruled b run t (told t part) ruled (ruled.last.2.0, told_open b.version (is_some t.before) t.instance part good ruled.last.2.1 next)
 
-    go : (run : Option OpenRun) → IsRuled (record b { run = run }) → takes_in b.version run part ≡ true → IsRuled (record b { run = put_part run part })
+    go : (run : Option OpenRun) → IsRuled (record b { run = run }) → may_take_part_in b.version run part ≡ true → IsRuled (record b { run = put_part run part })
     go None ruled next = absurd (true≢false (sym next))
     go (Some o) ruled next = last o.run o.task ruled next
 
 -- ---- a run
 
-close_ruled : (b : Beginning) (o : OpenRun) → IsRuled (record b { run = Some o }) → is_given_in b.version (Some o) ≡ true → (count_of o == length b.tasks) ≡ true → AllByRecursion (IsShownRun b.version (length b.tasks)) (b.runs ++ closed o ∷ [])
+close_ruled : (b : ReportSoFar) (o : OpenRun) → IsRuled (record b { run = Some o }) → is_given_in b.version (Some o) ≡ true → (task_count_of o == length b.tasks) ≡ true → AllByRecursion (IsShownRun b.version (length b.tasks)) (b.runs ++ closed o ∷ [])
 close_ruled b o ruled given whole =
     all_more (IsShownRun b.version (length b.tasks)) b.runs (closed o) ruled.runs
     (record { interval = ruled.last.0; each = tasks_each b.version o given ruled.last; all = count_is o ∙ eqb-true _ _ whole })
@@ -243,7 +243,7 @@ none_before (r ∷ rs) ids counted = absurd counted
 starts_later : (m n : ℤ) → int_lt m n ≡ true → m <ℤ n
 starts_later m n e = grind (arith, ints)
 
-pub run_ruled : (b c : Beginning) (run : RunReport) → run.tasks ≡ [] → IsRunInterval run.interval → IsCounted b → IsRuled b → with_run b run ≡ Some c → IsRuled c
+pub run_ruled : (b c : ReportSoFar) (run : RunReport) → run.tasks ≡ [] → IsRunInterval run.interval → IsCounted b → IsRuled b → with_run b run ≡ Some c → IsRuled c
 run_ruled b c run none good counted ruled e =
     let (next, is) = if_some (may_begin_in b run.interval) _ c e in
     let (all, (few, later)) = begin_parts b run.interval next in
@@ -270,7 +270,7 @@ run_ruled b c run none good counted ruled e =
 
 -- ---- the whole
 
-pub report_ruled : (b : Beginning) → IsCounted b → IsSmall b → IsRuled b → is_whole_at b ≡ true → IsShownReport (so_far b)
+pub report_ruled : (b : ReportSoFar) → IsCounted b → IsSmall b → IsRuled b → is_whole_at b ≡ true → IsShownReport (so_far b)
 report_ruled b counted small ruled all =
     let (given, whole) = whole_parts b all in
     let (shown, known) = go b.run counted ruled given whole in

@@ -6,7 +6,7 @@ use Rattle.bf_report.specs.declared.report.RunReport.{RunReport}
 use Rattle.bf_report.specs.Report.{run_line}
 use Rattle.bf_report_reader.specs.declared.entry.Entry.{Entry}
 use Rattle.bf_report_reader.specs.declared.part.GivenPart.{GivenPart}
-use Rattle.bf_report_reader.specs.declared.beginning.Beginning.{Beginning}
+use Rattle.bf_report_reader.specs.declared.beginning.ReportSoFar.{ReportSoFar}
 use Rattle.bf_report_reader.specs.Entries.{IsEntry, entry_text}
 use Rattle.bf_report_reader.specs.Parts.{IsPart, part_text}
 use Rattle.bf_report_reader.specs.Runs.{run_words, IsRunInterval}
@@ -19,7 +19,7 @@ use Rattle.bf_report_reader.proofs.Ruled.{entry_ruled, run_ruled, part_ruled}
 use Rattle.bf_report_reader.proofs.Rooms.{entry_room, run_room, part_room}
 use Rattle.bf_report_reader.proofs.HeldFacts.{consumes_more}
 
-pub entry_next : (b c : Beginning) (id line : List ℕ) (e : Entry) → IsCounted b → IsSmall b → IsRuled b → IsEntry e → line ≡ id ++ 32 ∷ entry_text e → with_entry b id e ≡ Some c → IsNext b line c
+pub entry_next : (b c : ReportSoFar) (id line : List ℕ) (e : Entry) → IsCounted b → IsSmall b → IsRuled b → IsEntry e → line ≡ id ++ 32 ∷ entry_text e → with_entry b id e ≡ Some c → IsNext b line c
 entry_next b c id line e counted small ruled good spelled added =
     let grows = entry_grows b c id e counted added in
     let (few, less) = entry_room b c id e counted small good added in
@@ -33,7 +33,7 @@ entry_next b c id line e counted small ruled good spelled added =
       read = grows.read ∙ ap (λ l. opening_text (so_far b) ++ l) same;
     }
 
-pub run_next : (b c : Beginning) (line : List ℕ) (run : RunReport) → run.tasks ≡ [] → IsRunInterval run.interval → IsCounted b → IsSmall b → IsRuled b → line ≡ codes "@run" ++ 32 ∷ run_words (run.interval, run.state)
+pub run_next : (b c : ReportSoFar) (line : List ℕ) (run : RunReport) → run.tasks ≡ [] → IsRunInterval run.interval → IsCounted b → IsSmall b → IsRuled b → line ≡ codes "@run" ++ 32 ∷ run_words (run.interval, run.state)
     → with_run b run ≡ Some c → IsNext b line c
 run_next b c line run bare good counted small ruled spelled added =
     let grows = run_grows b c run bare counted added in
@@ -48,7 +48,7 @@ run_next b c line run bare good counted small ruled spelled added =
       read = grows.read ∙ ap (λ l. opening_text (so_far b) ++ l) same;
     }
 
-pub part_next : (b c : Beginning) (line : List ℕ) (part : GivenPart) → IsCounted b → IsSmall b → IsRuled b → IsPart part → line ≡ part_text part → with_part b part ≡ Some c → IsNext b line c
+pub part_next : (b c : ReportSoFar) (line : List ℕ) (part : GivenPart) → IsCounted b → IsSmall b → IsRuled b → IsPart part → line ≡ part_text part → with_part b part ≡ Some c → IsNext b line c
 part_next b c line part counted small ruled good spelled added =
     let grows = part_grows b c part counted ruled added in
     let (few, less) = part_room b c part small added in
@@ -62,12 +62,12 @@ part_next b c line part counted small ruled good spelled added =
       read = grows.read ∙ ap (λ l. opening_text (so_far b) ++ l) same;
     }
 
-pub follows_next : (b c : Beginning) (line : List ℕ) → IsCounted b → IsSmall b → IsRuled b → Follows b line c → IsNext b line c
+pub follows_next : (b c : ReportSoFar) (line : List ℕ) → IsCounted b → IsSmall b → IsRuled b → Follows b line c → IsNext b line c
 follows_next b c line counted small ruled (inl one) = entry_next b c one.id line one.entry counted small ruled one.good one.spelled one.added
 follows_next b c line counted small ruled (inr (inl one)) = run_next b c line one.run one.bare one.good counted small ruled one.spelled one.added
 follows_next b c line counted small ruled (inr (inr one)) = part_next b c line one.part counted small ruled one.good one.spelled one.added
 
-pub counted_runs : (b : Beginning) → length (runs_of b) ≡ run_count_of b
+pub counted_runs : (b : ReportSoFar) → length (runs_of b) ≡ run_count_of b
 counted_runs b = length-append b.runs (last_run b.run)
 
 -- ---- bytes that come line by line
@@ -76,5 +76,5 @@ pub reads_more : (a b c : Option (List ℕ)) (before mid after line : List ℕ) 
 reads_more a b c before mid after line (text, came, is) next e =
     (text ++ line, consumes_more a b c text line came next, e ∙ ap (λ t. t ++ line) is ∙ append_assoc before text line)
 
-pub head_opens : (b : Beginning) (head : Version × List ℕ) (text : List ℕ) → b ≡ start head → text ≡ head_words head → opening_text (so_far b) ≡ text ++ 10 ∷ []
-head_opens b head text is said = ap (λ (x : Beginning). opening_text (so_far x)) is ∙ append-nil (head_words head ++ 10 ∷ []) ∙ ap (λ l. l ++ 10 ∷ []) (sym said)
+pub head_opens : (b : ReportSoFar) (head : Version × List ℕ) (text : List ℕ) → b ≡ start head → text ≡ head_words head → opening_text (so_far b) ≡ text ++ 10 ∷ []
+head_opens b head text is said = ap (λ (x : ReportSoFar). opening_text (so_far x)) is ∙ append-nil (head_words head ++ 10 ∷ []) ∙ ap (λ l. l ++ 10 ∷ []) (sym said)

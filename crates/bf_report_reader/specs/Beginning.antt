@@ -17,7 +17,7 @@ use Rattle.bf_report_reader.specs.declared.entry.Entry.{Entry}
 use Rattle.bf_report_reader.specs.declared.part.GivenPart.{GivenPart}
 use Rattle.bf_report_reader.specs.Open.{OpenTask}
 use Rattle.bf_report_reader.specs.declared.open.OpenRun.{OpenRun}
-use Rattle.bf_report_reader.specs.declared.beginning.Beginning.{Beginning}
+use Rattle.bf_report_reader.specs.declared.beginning.ReportSoFar.{ReportSoFar}
 
 -- ---- what was read
 
@@ -39,8 +39,8 @@ abbrev pub open_count : Option OpenTask → ℕ
 open_count None = 0
 open_count (Some task) = 1
 
-abbrev pub count_of : OpenRun → ℕ
-count_of open_run = length open_run.run.tasks + open_count open_run.task
+abbrev pub task_count_of : OpenRun → ℕ
+task_count_of open_run = length open_run.run.tasks + open_count open_run.task
 
 abbrev pub closed : OpenRun → RunReport
 closed open_run = record open_run.run { tasks = tasks_in open_run }
@@ -49,10 +49,10 @@ abbrev pub last_run : Option OpenRun → List RunReport
 last_run None = []
 last_run (Some open_run) = closed open_run ∷ []
 
-abbrev pub runs_of : Beginning → List RunReport
+abbrev pub runs_of : ReportSoFar → List RunReport
 runs_of beginning = beginning.runs ++ last_run beginning.run
 
-abbrev pub so_far : Beginning → Report
+abbrev pub so_far : ReportSoFar → Report
 so_far beginning =
     record {
       version = beginning.version;
@@ -103,7 +103,7 @@ untold result = record { result = result; item = None; pulls = [] }
 
 -- ---- what may stand next
 
-abbrev pub run_count_of : Beginning → ℕ
+abbrev pub run_count_of : ReportSoFar → ℕ
 run_count_of beginning = length beginning.runs + length (last_run beginning.run)
 
 -- the instance that was read last has its item, where one is told
@@ -115,16 +115,16 @@ abbrev pub is_given_in : Version → Option OpenRun → Bool
 is_given_in version None = true
 is_given_in version (Some open_run) = is_given_task version open_run.task
 
-abbrev pub is_given_at : Beginning → Bool
-is_given_at beginning = is_given_in beginning.version beginning.run
+abbrev pub has_its_item_at : ReportSoFar → Bool
+has_its_item_at beginning = is_given_in beginning.version beginning.run
 
 -- each run has all tasks
 abbrev pub is_whole_in : Option OpenRun → List (List ℕ) → Bool
 is_whole_in None tasks = true
-is_whole_in (Some open_run) tasks = count_of open_run == length tasks
+is_whole_in (Some open_run) tasks = task_count_of open_run == length tasks
 
-abbrev pub is_whole_at : Beginning → Bool
-is_whole_at beginning = is_given_at beginning && is_whole_in beginning.run beginning.tasks
+abbrev pub is_whole_at : ReportSoFar → Bool
+is_whole_at beginning = has_its_item_at beginning && is_whole_in beginning.run beginning.tasks
 
 abbrev pub starts_before : Option OpenRun → Interval → Bool
 starts_before None interval = true
@@ -132,7 +132,7 @@ starts_before (Some open_run) interval =
     int_lt open_run.run.interval.start.nanosecond interval.start.nanosecond
 
 -- a run with this data interval
-abbrev pub may_begin_in : Beginning → Interval → Bool
+abbrev pub may_begin_in : ReportSoFar → Interval → Bool
 may_begin_in beginning interval =
     (is_whole_at beginning && nat_lt (run_count_of beginning) 4_096)
     && starts_before beginning.run interval
@@ -143,20 +143,20 @@ is_text None id = false
 is_text (Some task) id = bytes_eq task id
 
 -- an id that isn't there yet
-abbrev pub is_new_in : List (List ℕ) → List ℕ → Bool
-is_new_in tasks id =
+abbrev pub is_new_id_in : List (List ℕ) → List ℕ → Bool
+is_new_id_in tasks id =
     (is_id_in id && nat_lt (length tasks) 2_000) && not (list_any (λ task. bytes_eq task id) tasks)
 
 -- in the first run a task that isn't there yet, in the others the next one
 abbrev pub is_next_in : List RunReport → List (List ℕ) → Option OpenRun → List ℕ → Bool
 is_next_in runs tasks None id = false
-is_next_in [] tasks (Some open_run) id = is_new_in tasks id
+is_next_in [] tasks (Some open_run) id = is_new_id_in tasks id
 is_next_in (first ∷ rest) tasks (Some open_run) id =
-    is_text (slice_get tasks (count_of open_run)) id
+    is_text (slice_get tasks (task_count_of open_run)) id
 
-abbrev pub is_next_at : Beginning → List ℕ → Bool
-is_next_at beginning id =
-    is_given_at beginning && is_next_in beginning.runs beginning.tasks beginning.run id
+abbrev pub is_next_id_at : ReportSoFar → List ℕ → Bool
+is_next_id_at beginning id =
+    has_its_item_at beginning && is_next_in beginning.runs beginning.tasks beginning.run id
 
 abbrev pub ids_with : List RunReport → List (List ℕ) → List ℕ → List (List ℕ)
 ids_with [] tasks id = tasks ++ id ∷ []
@@ -176,9 +176,9 @@ goes_on_in tasks None id index = false
 goes_on_in tasks (Some open_run) id index =
     is_further_task open_run.task index && is_text (slice_get tasks (length open_run.run.tasks)) id
 
-abbrev pub goes_on_at : Beginning → List ℕ → ℕ → Bool
-goes_on_at beginning id index =
-    is_given_at beginning && goes_on_in beginning.tasks beginning.run id index
+abbrev pub is_next_instance_at : ReportSoFar → List ℕ → ℕ → Bool
+is_next_instance_at beginning id index =
+    has_its_item_at beginning && goes_on_in beginning.tasks beginning.run id index
 
 -- a task without a try
 abbrev pub never_report : Untried → TaskReport
@@ -197,9 +197,9 @@ takes_task version None part = false
 takes_task version (Some task) part =
     takes_at version (lacks_no_item version task) task.instance part
 
-abbrev pub takes_in : Version → Option OpenRun → GivenPart → Bool
-takes_in version None part = false
-takes_in version (Some open_run) part = takes_task version open_run.task part
+abbrev pub may_take_part_in : Version → Option OpenRun → GivenPart → Bool
+may_take_part_in version None part = false
+may_take_part_in version (Some open_run) part = takes_task version open_run.task part
 
 -- ---- what is read then
 
@@ -235,7 +235,7 @@ put_part None part = None
 put_part (Some open_run) part =
     Some (record open_run { task = option_map (λ task. told task part) open_run.task })
 
-abbrev pub with_run : Beginning → RunReport → Option Beginning
+abbrev pub with_run : ReportSoFar → RunReport → Option ReportSoFar
 with_run beginning run =
     if may_begin_in beginning run.interval
     then Some (record beginning {
@@ -243,35 +243,35 @@ with_run beginning run =
       run = Some (record { run = run; task = None });
     }) else None
 
-abbrev pub with_task : Beginning → List ℕ → TaskReport → Option Beginning
+abbrev pub with_task : ReportSoFar → List ℕ → TaskReport → Option ReportSoFar
 with_task beginning id task =
-    if is_next_at beginning id then Some
+    if is_next_id_at beginning id then Some
     (record beginning {
       tasks = ids_with beginning.runs beginning.tasks id;
       run = put_task beginning.run task;
     }) else None
 
-abbrev pub with_open : Beginning → List ℕ → OpenTask → Option Beginning
+abbrev pub with_open : ReportSoFar → List ℕ → OpenTask → Option ReportSoFar
 with_open beginning id task =
-    if is_next_at beginning id then Some
+    if is_next_id_at beginning id then Some
     (record beginning {
       tasks = ids_with beginning.runs beginning.tasks id;
       run = put_open beginning.run task;
     }) else None
 
-abbrev pub with_further : Beginning → List ℕ → ℕ → TaskResult → Option Beginning
+abbrev pub with_further : ReportSoFar → List ℕ → ℕ → TaskResult → Option ReportSoFar
 with_further beginning id index result =
-    if goes_on_at beginning id index
+    if is_next_instance_at beginning id index
     then Some (record beginning { run = put_further beginning.run result }) else None
 
 -- what a line tells of what the last instance was given
-abbrev pub with_part : Beginning → GivenPart → Option Beginning
+abbrev pub with_part : ReportSoFar → GivenPart → Option ReportSoFar
 with_part beginning part =
-    if takes_in beginning.version beginning.run part
+    if may_take_part_in beginning.version beginning.run part
     then Some (record beginning { run = put_part beginning.run part }) else None
 
 -- what a line says of a task
-unfoldable pub with_entry : Beginning → List ℕ → Entry → Option Beginning
+unfoldable pub with_entry : ReportSoFar → List ℕ → Entry → Option ReportSoFar
 with_entry beginning id (Entry.Never untried) = with_task beginning id (never_report untried)
 with_entry beginning id (Entry.Tried None result) = with_open beginning id (opened_by false result)
 with_entry beginning id (Entry.Tried (Some zero) result) =
@@ -284,11 +284,11 @@ with_entry beginning id (Entry.Tried (Some (suc before)) result) =
 -- in the first run each task has its id, in the others there are no more tasks than ids
 abbrev pub IsCountedIn : List RunReport → List (List ℕ) → Option OpenRun → Type 0
 IsCountedIn [] tasks None = tasks ≡ []
-IsCountedIn [] tasks (Some open_run) = count_of open_run ≡ length tasks
+IsCountedIn [] tasks (Some open_run) = task_count_of open_run ≡ length tasks
 IsCountedIn (first ∷ rest) tasks None = ⊥
-IsCountedIn (first ∷ rest) tasks (Some open_run) = count_of open_run ≤ length tasks
+IsCountedIn (first ∷ rest) tasks (Some open_run) = task_count_of open_run ≤ length tasks
 
-abbrev pub IsCounted : Beginning → Type 0
+abbrev pub IsCounted : ReportSoFar → Type 0
 IsCounted beginning = IsCountedIn beginning.runs beginning.tasks beginning.run
 
 -- ---- lines
@@ -311,10 +311,10 @@ task_room (Some task) = before_room task.before + instance_room task.instance
 
 abbrev pub open_room : Option OpenRun → ℕ
 open_room None = 0
-open_room (Some open_run) = (2_000 - count_of open_run) * 30_000 + task_room open_run.task
+open_room (Some open_run) = (2_000 - task_count_of open_run) * 30_000 + task_room open_run.task
 
-abbrev pub room : Beginning → ℕ
+abbrev pub room : ReportSoFar → ℕ
 room beginning = (4_096 - run_count_of beginning) * 70_000_000 + open_room beginning.run
 
-abbrev pub IsSmall : Beginning → Type 0
+abbrev pub IsSmall : ReportSoFar → Type 0
 IsSmall beginning = length beginning.tasks ≤ 2_000

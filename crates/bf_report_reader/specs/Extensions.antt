@@ -4,7 +4,7 @@ use Rattle.bf_plan.specs.Ids.{is_id_in}
 use Rattle.bf_report.specs.declared.report.Version.{Version}
 use Rattle.bf_report.specs.declared.report.Report.{Report}
 use Rattle.bf_report.specs.Report.{version_word_of, report_text}
-use Rattle.bf_report_reader.specs.declared.beginning.Beginning.{Beginning}
+use Rattle.bf_report_reader.specs.declared.beginning.ReportSoFar.{ReportSoFar}
 use Rattle.bf_report_reader.specs.Rules.{IsShownReport}
 use Rattle.bf_report_reader.specs.Beginning.{is_whole_at, so_far, opening_text}
 use Rattle.bf_report_reader.specs.Steps.{Follows}
@@ -18,25 +18,25 @@ abbrev pub SaysHead : List ℕ → Version × List ℕ → Type 0
 SaysHead text head = (is_id_in head.1 ≡ true) × (text ≡ head_words head)
 
 -- a report of which only the head was read
-abbrev pub start : Version × List ℕ → Beginning
+abbrev pub start : Version × List ℕ → ReportSoFar
 start head = record { version = head.0; dag_id = head.1; tasks = []; runs = []; run = None }
 
 -- by so many lines the one becomes the other
-abbrev pub Leads : ℕ → Beginning → Beginning → Type 0
+abbrev pub Leads : ℕ → ReportSoFar → ReportSoFar → Type 0
 Leads zero old new = old ≡ new
 Leads (suc more) old new =
-    (text : List ℕ) × (next : Beginning) × Follows old text next × Leads more next new
+    (text : List ℕ) × (next : ReportSoFar) × Follows old text next × Leads more next new
 
 -- the lines that are left lead to this report
-pub record Extends (beginning : Beginning) (report : Report) : Type 0 where
+pub record Extends (beginning : ReportSoFar) (report : Report) : Type 0 where
   pub lines : ℕ
-  pub last : Beginning
+  pub last : ReportSoFar
   pub leads : Leads lines beginning last
   pub whole : is_whole_at last ≡ true
   pub is : so_far last ≡ report
 
 -- each report whose text begins so goes on from here
-abbrev pub IsKnown : Beginning → Type 0
+abbrev pub IsKnown : ReportSoFar → Type 0
 IsKnown beginning =
     (report : Report) (more : List ℕ) → IsShownReport report → report_text report
     ≡ opening_text (so_far beginning) ++ more → Extends beginning report

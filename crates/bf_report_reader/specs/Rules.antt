@@ -12,7 +12,7 @@ use Rattle.bf_report.specs.declared.report.RunReport.{RunReport}
 use Rattle.bf_report.specs.declared.report.Report.{Report}
 use Rattle.bf_report_reader.specs.Open.{OpenTask}
 use Rattle.bf_report_reader.specs.declared.open.OpenRun.{OpenRun}
-use Rattle.bf_report_reader.specs.declared.beginning.Beginning.{Beginning}
+use Rattle.bf_report_reader.specs.declared.beginning.ReportSoFar.{ReportSoFar}
 use Rattle.bf_report_reader.specs.Entries.{IsShownResult}
 use Rattle.bf_report_reader.specs.Parts.{IsToldItem, IsToldPull}
 use Rattle.bf_report_reader.specs.Runs.{IsRunInterval}
@@ -99,7 +99,7 @@ IsOpenRun version (Some open_run) =
     IsRunInterval open_run.run.interval × AllByRecursion (IsShownTask version) open_run.run.tasks
     × IsOpenTask version open_run.task
 
-pub record IsRuled (beginning : Beginning) : Type 0 where
+pub record IsRuled (beginning : ReportSoFar) : Type 0 where
   pub dag_id : is_id_in beginning.dag_id ≡ true
   pub ids : AllByRecursion (λ id. is_id_in id ≡ true) beginning.tasks
   pub distinct : AreDistinct beginning.tasks

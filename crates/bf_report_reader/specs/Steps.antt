@@ -3,7 +3,7 @@ use Rattle.std.specs.Prelude.{◌≡◌, ◌<◌, ◌⊎◌, ℕ, true, List, []
 use Rattle.std.specs.Io.KnownBytes.{Consumes}
 use Rattle.bf_report.specs.declared.report.RunReport.{RunReport}
 use Rattle.bf_report_reader.specs.declared.entry.Entry.{Entry}
-use Rattle.bf_report_reader.specs.declared.beginning.Beginning.{Beginning}
+use Rattle.bf_report_reader.specs.declared.beginning.ReportSoFar.{ReportSoFar}
 use Rattle.bf_report_reader.specs.declared.part.GivenPart.{GivenPart}
 use Rattle.bf_report_reader.specs.declared.reading.Step.{Step}
 use Rattle.bf_report_reader.specs.Entries.{IsEntry, entry_text}
@@ -13,7 +13,7 @@ use Rattle.bf_report_reader.specs.Rules.{IsRuled}
 use Rattle.bf_report_reader.specs.Beginning.{IsCounted, IsSmall, is_whole_at, room, opening_text, so_far, runs_of, with_entry, with_run, with_part}
 
 -- the line is that of a task which may stand next, and the other is the report with it
-pub record AddsEntry (old : Beginning) (text : List ℕ) (new : Beginning) : Type 0 where
+pub record AddsEntry (old : ReportSoFar) (text : List ℕ) (new : ReportSoFar) : Type 0 where
   pub id : List ℕ
   pub entry : Entry
   pub good : IsEntry entry
@@ -21,7 +21,7 @@ pub record AddsEntry (old : Beginning) (text : List ℕ) (new : Beginning) : Typ
   pub added : with_entry old id entry ≡ Some new
 
 -- the line is that of a run which may stand next
-pub record AddsRun (old : Beginning) (text : List ℕ) (new : Beginning) : Type 0 where
+pub record AddsRun (old : ReportSoFar) (text : List ℕ) (new : ReportSoFar) : Type 0 where
   pub run : RunReport
   pub bare : run.tasks ≡ []
   pub good : IsRunInterval run.interval
@@ -29,28 +29,28 @@ pub record AddsRun (old : Beginning) (text : List ℕ) (new : Beginning) : Type 
   pub added : with_run old run ≡ Some new
 
 -- the line is that of an item or a pull which may stand next
-pub record AddsPart (old : Beginning) (text : List ℕ) (new : Beginning) : Type 0 where
+pub record AddsPart (old : ReportSoFar) (text : List ℕ) (new : ReportSoFar) : Type 0 where
   pub part : GivenPart
   pub good : IsPart part
   pub spelled : text ≡ part_text part
   pub added : with_part old part ≡ Some new
 
 -- by the line the report has become the other
-abbrev pub Follows : Beginning → List ℕ → Beginning → Type 0
+abbrev pub Follows : ReportSoFar → List ℕ → ReportSoFar → Type 0
 Follows old text new = AddsEntry old text new ⊎ (AddsRun old text new ⊎ AddsPart old text new)
 
 -- the line is the end of the report
-abbrev pub MayEnd : Beginning → List ℕ → Type 0
+abbrev pub MayEnd : ReportSoFar → List ℕ → Type 0
 MayEnd beginning text =
     (text ≡ codes "@end" ++ 32 ∷ decimal (length (runs_of beginning)))
     × (is_whole_at beginning ≡ true)
 
 -- the line may stand next
-abbrev pub MayStand : Beginning → List ℕ → Type 0
-MayStand beginning text = ((new : Beginning) × Follows beginning text new) ⊎ MayEnd beginning text
+abbrev pub MayStand : ReportSoFar → List ℕ → Type 0
+MayStand beginning text = ((new : ReportSoFar) × Follows beginning text new) ⊎ MayEnd beginning text
 
 -- the report has grown by the line
-pub record IsNext (old : Beginning) (text : List ℕ) (new : Beginning) : Type 0 where
+pub record IsNext (old : ReportSoFar) (text : List ℕ) (new : ReportSoFar) : Type 0 where
   pub counted : IsCounted new
   pub small : IsSmall new
   pub ruled : IsRuled new
@@ -59,21 +59,21 @@ pub record IsNext (old : Beginning) (text : List ℕ) (new : Beginning) : Type 0
   pub read : opening_text (so_far new) ≡ opening_text (so_far old) ++ (text ++ 10 ∷ [])
 
 -- what comes of a line
-abbrev pub Steps : Step → Beginning → List ℕ → Beginning → Type 0
+abbrev pub Steps : Step → ReportSoFar → List ℕ → ReportSoFar → Type 0
 Steps Step.Taken old text new = IsNext old text new
 Steps Step.End old text new = MayEnd old text × (new ≡ old)
 Steps Step.Refused old text new = ¬ (MayStand old text)
 
 -- the same of a line with this id, as that of a task
-abbrev pub EntrySteps : Step → Beginning → List ℕ → List ℕ → Beginning → Type 0
+abbrev pub EntrySteps : Step → ReportSoFar → List ℕ → List ℕ → ReportSoFar → Type 0
 EntrySteps Step.Taken old id text new = IsNext old (id ++ 32 ∷ text) new
 EntrySteps Step.End old id text new = ⊥
 EntrySteps Step.Refused old id text new =
-    (entry : Entry) (other : Beginning) → IsEntry entry → text ≡ entry_text entry
+    (entry : Entry) (other : ReportSoFar) → IsEntry entry → text ≡ entry_text entry
     → ¬ (with_entry old id entry ≡ Some other)
 
 -- the report may end by this number of runs
-abbrev pub EndsBy : Step → Beginning → List ℕ → Type 0
+abbrev pub EndsBy : Step → ReportSoFar → List ℕ → Type 0
 EndsBy Step.Taken beginning text = ⊥
 EndsBy Step.End beginning text = MayEnd beginning (codes "@end" ++ 32 ∷ text)
 EndsBy Step.Refused beginning text = ¬ (MayEnd beginning (codes "@end" ++ 32 ∷ text))

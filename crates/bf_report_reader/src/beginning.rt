@@ -1,6 +1,6 @@
 //! A report as far as it was read.
 ghost use Rattle.std.specs.Prelude.{◌≡◌, ◌∷◌, ◌++◌, [], if◌then◌else◌, true, IfOk, OnOk, Some, None};
-ghost use Rattle.bf_report_reader.specs.Beginning.{so_far, last_run, never_report, opened_by, run_count_of, is_given_at, is_whole_in, is_whole_at, may_begin_in, with_run, is_new_in, is_next_at, ids_with, with_task, with_open, goes_on_at, with_further, takes_in, with_part, with_entry};
+ghost use Rattle.bf_report_reader.specs.Beginning.{so_far, last_run, never_report, opened_by, run_count_of, has_its_item_at, is_whole_in, is_whole_at, may_begin_in, with_run, is_new_id_in, is_next_id_at, ids_with, with_task, with_open, is_next_instance_at, with_further, may_take_part_in, with_part, with_entry};
 
 use crate::entry::{Entry, Untried};
 use crate::ids::TaskIds;
@@ -15,7 +15,7 @@ use bf_xcom::TaskResult;
 use std::alloc::Global;
 
 /// Puts a run that has no more lines behind the others.
-fn close(runs: &mut Sequence<RunReport>, run: Option<OpenRun>) -> Result<(), OutOfMemory>
+fn add_closed(runs: &mut Sequence<RunReport>, run: Option<OpenRun>) -> Result<(), OutOfMemory>
     ensures { OnOk result (runs.new ≡ runs.old ++ last_run run) }
 {
     if let Some(open) = run {
@@ -26,7 +26,7 @@ fn close(runs: &mut Sequence<RunReport>, run: Option<OpenRun>) -> Result<(), Out
 
 /// A report as far as it was read. The ids of its tasks come with its first run.
 #[derive(Drop)]
-pub(crate) struct Beginning {
+pub(crate) struct ReportSoFar {
     pub version: Version,
     pub dag_id: Text,
     pub tasks: TaskIds,
@@ -35,9 +35,9 @@ pub(crate) struct Beginning {
     pub run: Option<OpenRun>,
 }
 
-impl Beginning {
+impl ReportSoFar {
     /// A report of which the head was read.
-    pub fn new(alloc: Global, version: Version, dag_id: Text) -> Beginning
+    pub fn new(alloc: Global, version: Version, dag_id: Text) -> ReportSoFar
         ensures { result ≡ record {
           version = version;
           dag_id = dag_id;
@@ -46,7 +46,7 @@ impl Beginning {
           run = None;
         } }
     {
-        Beginning {
+        ReportSoFar {
             version,
             dag_id,
             tasks: TaskIds::new(alloc),
@@ -67,11 +67,11 @@ impl Beginning {
     }
 
     /// Whether the instance that was read last has its item, where the version tells one.
-    fn is_given(&self) -> bool
-        ensures { result ≡ is_given_at self.now }
+    fn has_its_item(&self) -> bool
+        ensures { result ≡ has_its_item_at self.now }
     {
         match &self.run {
-            Some(open) => open.is_given(self.version),
+            Some(open) => open.has_its_item(self.version),
             None => true,
         }
     }
@@ -81,7 +81,7 @@ impl Beginning {
         ensures { result ≡ is_whole_in self.now.run self.now.tasks }
     {
         match &self.run {
-            Some(open) => open.count() == self.tasks.len(),
+            Some(open) => open.task_count() == self.tasks.len(),
             None => true,
         }
     }
@@ -90,7 +90,7 @@ impl Beginning {
     pub fn is_whole(&self) -> bool
         ensures { result ≡ is_whole_at self.now }
     {
-        self.is_given() && self.has_all_tasks()
+        self.has_its_item() && self.has_all_tasks()
     }
 
     /// Whether a run with this data interval may stand next.
@@ -115,13 +115,13 @@ impl Beginning {
         if !self.may_begin(run.interval) {
             return Ok(false);
         }
-        close(&mut self.runs, self.run.replace(OpenRun::new(run)))?;
+        add_closed(&mut self.runs, self.run.replace(OpenRun::new(run)))?;
         Ok(true)
     }
 
     /// Whether a task with this id may stand next in the first run: it is an id that isn't there yet.
-    fn is_new(&self, id: &[u8]) -> bool
-        ensures { result ≡ is_new_in self.now.tasks id.now }
+    fn is_new_id(&self, id: &[u8]) -> bool
+        ensures { result ≡ is_new_id_in self.now.tasks id.now }
     {
         let Ok(id) = std::str::from_utf8(id) else {
             return false;
@@ -130,23 +130,23 @@ impl Beginning {
     }
 
     /// Whether a task with this id may stand next: in the first run any that isn't there yet, in the others the next one.
-    fn is_next(&self, id: &[u8]) -> bool
-        ensures { result ≡ is_next_at self.now id.now }
+    fn is_next_id(&self, id: &[u8]) -> bool
+        ensures { result ≡ is_next_id_at self.now id.now }
     {
         let Some(open) = &self.run else {
             return false;
         };
-        if !open.is_given(self.version) {
+        if !open.has_its_item(self.version) {
             return false;
         }
         if self.runs.is_empty() {
-            return self.is_new(id);
+            return self.is_new_id(id);
         }
-        self.tasks.has_at(open.count(), id)
+        self.tasks.has_at(open.task_count(), id)
     }
 
     fn add_id(&mut self, alloc: Global, id: &[u8]) -> Result<(), OutOfMemory>
-        requires { is_next_at self.old id.now ≡ true }
+        requires { is_next_id_at self.old id.now ≡ true }
         ensures { OnOk result (self.new ≡ record self.old {
           tasks = ids_with self.old.runs self.old.tasks id.now;
         }) }
@@ -161,23 +161,28 @@ impl Beginning {
     }
 
     /// Adds a task without a try, where it may stand next.
-    fn add_task(&mut self, alloc: Global, id: &[u8], untried: Untried) -> Result<bool, OutOfMemory>
+    fn add_untried_task(
+        &mut self,
+        alloc: Global,
+        id: &[u8],
+        untried: Untried,
+    ) -> Result<bool, OutOfMemory>
         ensures { IfOk result (λ taken. with_task self.old id.now (never_report untried)
             ≡ (if taken then Some self.new else None)) }
     {
-        if !self.is_next(id) {
+        if !self.is_next_id(id) {
             return Ok(false);
         }
         self.add_id(alloc, id)?;
         if let Some(open) = &mut self.run {
-            open.add_task(untried)?;
+            open.add_untried_task(untried)?;
         }
         Ok(true)
     }
 
     /// Adds a task by its first instance, where it may stand next.
     #[inline(always)]
-    fn add_open(
+    fn add_open_task(
         &mut self,
         alloc: Global,
         id: &[u8],
@@ -187,27 +192,27 @@ impl Beginning {
         ensures { IfOk result (λ taken. with_open self.old id.now (opened_by is_expanded first)
             ≡ (if taken then Some self.new else None)) }
     {
-        if !self.is_next(id) {
+        if !self.is_next_id(id) {
             return Ok(false);
         }
         self.add_id(alloc, id)?;
         if let Some(open) = &mut self.run {
-            open.add_open(alloc, is_expanded, first)?;
+            open.add_open_task(alloc, is_expanded, first)?;
         }
         Ok(true)
     }
 
     /// Whether an instance with this index is the next of the task that stands last.
-    fn goes_on(&self, id: &[u8], index: u32) -> bool
-        ensures { result ≡ goes_on_at self.now id.now index }
+    fn is_next_instance(&self, id: &[u8], index: u32) -> bool
+        ensures { result ≡ is_next_instance_at self.now id.now index }
     {
         let Some(open) = &self.run else {
             return false;
         };
-        if !open.is_given(self.version) || !open.goes_on(index) {
+        if !open.has_its_item(self.version) || !open.is_next_instance(index) {
             return false;
         }
-        self.tasks.has_at(open.count() - 1, id)
+        self.tasks.has_at(open.task_count() - 1, id)
     }
 
     /// Adds a further instance of an expanded task, where it may stand next.
@@ -221,7 +226,7 @@ impl Beginning {
         ensures { IfOk result (λ taken.
             with_further self.old id.now index ended ≡ (if taken then Some self.new else None)) }
     {
-        if !self.goes_on(id, index) {
+        if !self.is_next_instance(id, index) {
             return Ok(false);
         }
         if let Some(open) = &mut self.run {
@@ -231,25 +236,25 @@ impl Beginning {
     }
 
     /// Adds what a line says of a task, where it may stand next.
-    #[tactic(auto, unfolding(crate::specs::Beginning::with_entry))]
+    #[tactic(auto, unfolding(crate::specs::ReportSoFar::with_entry))]
     pub fn add_entry(&mut self, alloc: Global, id: &[u8], entry: Entry) -> Result<bool, OutOfMemory>
         ensures { IfOk result (λ taken.
             with_entry self.old id.now entry ≡ (if taken then Some self.new else None)) }
     {
         match entry {
-            Entry::Never(untried) => self.add_task(alloc, id, untried),
-            Entry::Tried(None, ended) => self.add_open(alloc, id, false, ended),
-            Entry::Tried(Some(0), first) => self.add_open(alloc, id, true, first),
+            Entry::Never(untried) => self.add_untried_task(alloc, id, untried),
+            Entry::Tried(None, ended) => self.add_open_task(alloc, id, false, ended),
+            Entry::Tried(Some(0), first) => self.add_open_task(alloc, id, true, first),
             Entry::Tried(Some(index), ended) => self.add_instance(alloc, id, index, ended),
         }
     }
 
     /// Whether a part of what the instance that was read last was given may stand next.
-    fn takes(&self, part: &GivenPart) -> bool
-        ensures { result ≡ takes_in self.now.version self.now.run part.now }
+    fn may_take_part(&self, part: &GivenPart) -> bool
+        ensures { result ≡ may_take_part_in self.now.version self.now.run part.now }
     {
         match &self.run {
-            Some(open) => open.takes(self.version, part),
+            Some(open) => open.may_take_part(self.version, part),
             None => false,
         }
     }
@@ -259,7 +264,7 @@ impl Beginning {
         ensures { IfOk result (λ taken.
             with_part self.old part ≡ (if taken then Some self.new else None)) }
     {
-        if !self.takes(&part) {
+        if !self.may_take_part(&part) {
             return Ok(false);
         }
         if let Some(open) = &mut self.run {
@@ -272,14 +277,14 @@ impl Beginning {
     pub fn into_report(self, alloc: Global) -> Result<Report, OutOfMemory>
         ensures { IfOk result (λ report. report ≡ so_far self) }
     {
-        let Beginning {
+        let ReportSoFar {
             version,
             dag_id,
             tasks,
             mut runs,
             run,
         } = self;
-        close(&mut runs, run)?;
+        add_closed(&mut runs, run)?;
         Ok(Report {
             version,
             dag_id,

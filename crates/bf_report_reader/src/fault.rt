@@ -22,7 +22,7 @@ pub enum ReportFault {
 
 impl ReportFault {
     /// The number of the refusal, which a fault of the device and want of memory don't have.
-    pub fn number(self) -> Option<u32>
+    pub fn refusal_number(self) -> Option<u32>
         ensures { result ≡ fault_number self }
     {
         match self {

@@ -25,7 +25,7 @@ pub(crate) fn line_feed_in(bytes: &[u8]) -> Option<usize>
 /// The bytes that were read from a device and not used yet, the line before them that was taken off whole, and how often
 /// the device was interrupted.
 #[derive(Drop)]
-pub(crate) struct Held {
+pub(crate) struct ReadBuffer {
     pub room: Vec<u8>,
     pub start: usize,
     pub end: usize,
@@ -40,13 +40,13 @@ pub(crate) struct Held {
     ghost few: { interruptions ≤ 1_000 },
 }
 
-impl Held {
+impl ReadBuffer {
     ghost use Rattle.bf_report_reader.specs.Held.{held_bytes, held_line, ahead, Tallies, Breaks, TakesLine, KeepsAll};
 
-    pub fn new(alloc: Global) -> Result<Held, OutOfMemory>
+    pub fn new(alloc: Global) -> Result<ReadBuffer, OutOfMemory>
         ensures { IfOk result (λ held. (held_bytes held ≡ []) × (held.interruptions ≡ 0)) }
     {
-        Ok(Held {
+        Ok(ReadBuffer {
             room: vec![in alloc; 0; ROOM]?,
             start: 0,
             end: 0,

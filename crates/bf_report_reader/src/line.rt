@@ -4,7 +4,7 @@ ghost use Rattle.bf_report_reader.specs.Held.{held_bytes, ahead, Tallies, Breaks
 ghost use Rattle.bf_report_reader.specs.Faults.{longest_line, Came, IsInLine, IsFromOutside};
 
 use crate::fault::ReportFault;
-use crate::held::{Held, LONGEST_LINE, line_feed_in};
+use crate::held::{LONGEST_LINE, ReadBuffer, line_feed_in};
 use bf_device::Read;
 use bf_value::OutOfMemory;
 
@@ -34,7 +34,7 @@ fn limit_of(line: &[u8]) -> usize
 
 /// Moves bytes that are held to a line, up to the first that is one too many for it, or up to the line feed, which is
 /// let go of. Says whether it was there.
-fn move_piece(held: &mut Held, line: &mut Vec<u8>) -> Result<bool, OutOfMemory>
+fn move_piece(held: &mut ReadBuffer, line: &mut Vec<u8>) -> Result<bool, OutOfMemory>
     requires { length line.old.items ≤ longest_line line.old.items }
     ensures piece { IfOk result (λ ended. MovesPiece ended
         (held_bytes held.old) (held_bytes held.new) line.old.items line.new.items) }
@@ -60,7 +60,7 @@ fn move_piece(held: &mut Held, line: &mut Vec<u8>) -> Result<bool, OutOfMemory>
 
 /// Takes the bytes of a line off a device.
 pub(crate) fn next_line<R: Read>(
-    held: &mut Held,
+    held: &mut ReadBuffer,
     device: &mut R,
     line: &mut Vec<u8>,
 ) -> Result<LineEnd, ReportFault>

@@ -6,7 +6,7 @@ ghost use Rattle.std.specs.List.{list_any};
 ghost use Rattle.std.specs.Str.{bytes_eq};
 ghost use Rattle.bf_report_reader.specs.Parting.{open_by};
 ghost use Rattle.bf_report_reader.specs.Lasts.{told_instances, told_task, further_task, at_last};
-ghost use Rattle.bf_report_reader.specs.Beginning.{never_report, opened_by, count_of, closed, most_told, with_told, is_further_task, is_given_task, takes_at, takes_task, put_task, put_open, put_further, put_part};
+ghost use Rattle.bf_report_reader.specs.Beginning.{never_report, opened_by, task_count_of, closed, most_told, with_told, is_further_task, is_given_task, takes_at, takes_task, put_task, put_open, put_further, put_part};
 
 use crate::entry::Untried;
 use crate::part::GivenPart;
@@ -49,7 +49,12 @@ fn has_pull(instance: &InstanceReport, id: &str) -> bool
 }
 
 /// Whether a part of what an instance was given may stand next, behind its item, where it has one, or in its place.
-fn takes_part(version: Version, is_given: bool, instance: &InstanceReport, part: &GivenPart) -> bool
+fn instance_may_take(
+    version: Version,
+    is_given: bool,
+    instance: &InstanceReport,
+    part: &GivenPart,
+) -> bool
     ensures { result ≡ takes_at version is_given instance.now part.now }
 {
     match part {
@@ -63,14 +68,14 @@ fn takes_part(version: Version, is_given: bool, instance: &InstanceReport, part:
 }
 
 /// Whether a part of what the last instance of a task was given may stand next.
-fn takes(version: Version, task: &TaskReport, part: &GivenPart) -> bool
+fn task_may_take(version: Version, task: &TaskReport, part: &GivenPart) -> bool
     ensures { result ≡ takes_task version (open_by task.now) part.now }
 {
     let is_given = has_its_item(version, task);
     match task {
-        TaskReport::Ran(instance) => takes_part(version, is_given, instance, part),
+        TaskReport::Ran(instance) => instance_may_take(version, is_given, instance, part),
         TaskReport::Mapped(instances) => match instances.as_slice().last() {
-            Some(instance) => takes_part(version, is_given, instance, part),
+            Some(instance) => instance_may_take(version, is_given, instance, part),
             None => false,
         },
         TaskReport::NoStatus | TaskReport::Skipped | TaskReport::UpstreamFailed => false,
@@ -88,7 +93,11 @@ fn is_next_index(task: &TaskReport, index: u32) -> bool
 }
 
 /// Tells a part of what an instance was given.
-fn tell(alloc: Global, instance: &mut InstanceReport, part: GivenPart) -> Result<(), OutOfMemory>
+fn add_part_to_instance(
+    alloc: Global,
+    instance: &mut InstanceReport,
+    part: GivenPart,
+) -> Result<(), OutOfMemory>
     ensures { OnOk result (instance.new ≡ with_told instance.old part) }
 {
     match part {
@@ -99,7 +108,7 @@ fn tell(alloc: Global, instance: &mut InstanceReport, part: GivenPart) -> Result
 
 /// A pull of the last of these instances, whose value is that of the instance before it where the two are equal, so that what all
 /// instances of a task pull is held once.
-fn with_known_value(instances: &[InstanceReport], pull: Pull) -> Result<Pull, OutOfMemory>
+fn share_known_value(instances: &[InstanceReport], pull: Pull) -> Result<Pull, OutOfMemory>
     ensures { IfOk result (λ same. same ≡ pull) }
 {
     let [.., before, last] = instances else {
@@ -115,17 +124,17 @@ fn with_known_value(instances: &[InstanceReport], pull: Pull) -> Result<Pull, Ou
 }
 
 /// A part of what the last of these instances was given, which shares what it can.
-fn with_known_part(instances: &[InstanceReport], part: GivenPart) -> Result<GivenPart, OutOfMemory>
+fn share_known_part(instances: &[InstanceReport], part: GivenPart) -> Result<GivenPart, OutOfMemory>
     ensures { IfOk result (λ same. same ≡ part) }
 {
     match part {
-        GivenPart::Pull(pull) => Ok(GivenPart::Pull(with_known_value(instances, pull)?)),
+        GivenPart::Pull(pull) => Ok(GivenPart::Pull(share_known_value(instances, pull)?)),
         GivenPart::Item(item) => Ok(GivenPart::Item(item)),
     }
 }
 
 /// Tells a part of what the last of these instances was given.
-fn tell_last(
+fn add_part_to_last_instance(
     alloc: Global,
     instances: &mut Sequence<InstanceReport>,
     part: GivenPart,
@@ -135,25 +144,29 @@ fn tell_last(
     let Some(instance) = instances.items.last_mut() else {
         return Ok(());
     };
-    tell(alloc, instance, part)
+    add_part_to_instance(alloc, instance, part)
 }
 
 /// Tells a part of what the last instance of a task was given.
-fn tell_task(alloc: Global, task: &mut TaskReport, part: GivenPart) -> Result<(), OutOfMemory>
+fn add_part_to_task(
+    alloc: Global,
+    task: &mut TaskReport,
+    part: GivenPart,
+) -> Result<(), OutOfMemory>
     ensures { OnOk result (task.new ≡ told_task part task.old) }
 {
     match task {
-        TaskReport::Ran(instance) => tell(alloc, instance, part),
+        TaskReport::Ran(instance) => add_part_to_instance(alloc, instance, part),
         TaskReport::Mapped(instances) => {
-            let part = with_known_part(instances.as_slice(), part)?;
-            tell_last(alloc, instances, part)
+            let part = share_known_part(instances.as_slice(), part)?;
+            add_part_to_last_instance(alloc, instances, part)
         }
         TaskReport::NoStatus | TaskReport::Skipped | TaskReport::UpstreamFailed => Ok(()),
     }
 }
 
 /// Tells a part of what the last instance of the last of these tasks was given.
-fn tell_last_task(
+fn add_part_to_last_task(
     alloc: Global,
     tasks: &mut Sequence<TaskReport>,
     part: GivenPart,
@@ -163,21 +176,25 @@ fn tell_last_task(
     let Some(task) = tasks.items.last_mut() else {
         return Ok(());
     };
-    tell_task(alloc, task, part)
+    add_part_to_task(alloc, task, part)
 }
 
 /// Adds a further instance to a task, where it is expanded.
-fn go_on(alloc: Global, task: &mut TaskReport, ended: TaskResult) -> Result<(), OutOfMemory>
+fn add_instance_to_task(
+    alloc: Global,
+    task: &mut TaskReport,
+    ended: TaskResult,
+) -> Result<(), OutOfMemory>
     ensures { OnOk result (task.new ≡ further_task ended task.old) }
 {
     match task {
-        TaskReport::Mapped(instances) => instances.push(InstanceReport::bare(alloc, ended)?),
+        TaskReport::Mapped(instances) => instances.push(InstanceReport::new_bare(alloc, ended)?),
         _ => Ok(()),
     }
 }
 
 /// Adds a further instance to the last of these tasks, where it is expanded.
-fn go_on_last(
+fn add_instance_to_last_task(
     alloc: Global,
     tasks: &mut Sequence<TaskReport>,
     ended: TaskResult,
@@ -187,28 +204,32 @@ fn go_on_last(
     let Some(task) = tasks.items.last_mut() else {
         return Ok(());
     };
-    go_on(alloc, task, ended)
+    add_instance_to_task(alloc, task, ended)
 }
 
 /// Tells a part of what the instance of a run that was read last was given.
-fn tell_run(alloc: Global, run: &mut RunReport, part: GivenPart) -> Result<(), OutOfMemory>
+fn add_part_to_run(alloc: Global, run: &mut RunReport, part: GivenPart) -> Result<(), OutOfMemory>
     ensures { OnOk result (run.new
         ≡ record run.old { tasks = at_last (told_task part) run.old.tasks }) }
 {
-    tell_last_task(alloc, &mut run.tasks, part)
+    add_part_to_last_task(alloc, &mut run.tasks, part)
 }
 
 /// Adds a further instance to the last task of a run, where it is expanded.
-fn go_on_run(alloc: Global, run: &mut RunReport, ended: TaskResult) -> Result<(), OutOfMemory>
+fn add_instance_to_run(
+    alloc: Global,
+    run: &mut RunReport,
+    ended: TaskResult,
+) -> Result<(), OutOfMemory>
     ensures { OnOk result (run.new
         ≡ record run.old { tasks = at_last (further_task ended) run.old.tasks }) }
 {
-    go_on_last(alloc, &mut run.tasks, ended)
+    add_instance_to_last_task(alloc, &mut run.tasks, ended)
 }
 
 /// Puts a task behind the others of a run.
 #[inline(always)]
-fn push(run: &mut RunReport, task: TaskReport) -> Result<(), OutOfMemory>
+fn push_task(run: &mut RunReport, task: TaskReport) -> Result<(), OutOfMemory>
     ensures { OnOk result (run.new ≡ record run.old { tasks = run.old.tasks ++ task ∷ [] }) }
 {
     run.tasks.push(task)?;
@@ -217,10 +238,14 @@ fn push(run: &mut RunReport, task: TaskReport) -> Result<(), OutOfMemory>
 
 /// A task by its first instance.
 #[inline(always)]
-fn begun(alloc: Global, is_expanded: bool, first: TaskResult) -> Result<TaskReport, OutOfMemory>
+fn open_task_of(
+    alloc: Global,
+    is_expanded: bool,
+    first: TaskResult,
+) -> Result<TaskReport, OutOfMemory>
     ensures { IfOk result (λ task. open_by task ≡ Some (opened_by is_expanded first)) }
 {
-    let instance = InstanceReport::bare(alloc, first)?;
+    let instance = InstanceReport::new_bare(alloc, first)?;
     if !is_expanded {
         return Ok(TaskReport::Ran(instance));
     }
@@ -268,22 +293,22 @@ impl OpenRun {
     }
 
     /// How many tasks were read.
-    pub fn count(&self) -> usize
-        ensures { result ≡ count_of self.now }
+    pub fn task_count(&self) -> usize
+        ensures { result ≡ task_count_of self.now }
     {
         self.run.tasks.len()
     }
 
     /// Puts a task without a try behind the others.
-    pub fn add_task(&mut self, untried: Untried) -> Result<(), OutOfMemory>
+    pub fn add_untried_task(&mut self, untried: Untried) -> Result<(), OutOfMemory>
         ensures { OnOk result (put_task (Some self.old) (never_report untried) ≡ Some self.new) }
     {
-        push(&mut self.run, untried.report())
+        push_task(&mut self.run, untried.report())
     }
 
     /// Puts a task behind the others that may have more lines.
     #[inline(always)]
-    pub fn add_open(
+    pub fn add_open_task(
         &mut self,
         alloc: Global,
         is_expanded: bool,
@@ -292,7 +317,7 @@ impl OpenRun {
         ensures { OnOk result (put_open (Some self.old) (opened_by is_expanded first)
             ≡ Some self.new) }
     {
-        push(&mut self.run, begun(alloc, is_expanded, first)?)
+        push_task(&mut self.run, open_task_of(alloc, is_expanded, first)?)
     }
 
     /// The task that stands last.
@@ -304,7 +329,7 @@ impl OpenRun {
     }
 
     /// Whether the instance that was read last has its item, where the version tells one.
-    pub fn is_given(&self, version: Version) -> bool
+    pub fn has_its_item(&self, version: Version) -> bool
         ensures { result ≡ is_given_task version self.now.task }
     {
         match self.last() {
@@ -314,7 +339,7 @@ impl OpenRun {
     }
 
     /// Whether an instance with this index is the next of the task that may have more.
-    pub fn goes_on(&self, index: u32) -> bool
+    pub fn is_next_instance(&self, index: u32) -> bool
         ensures { result ≡ is_further_task self.now.task index }
     {
         match self.last() {
@@ -328,15 +353,15 @@ impl OpenRun {
         requires { (index : ℕ) × (is_further_task self.old.task index ≡ true) }
         ensures { OnOk result (put_further (Some self.old) ended ≡ Some self.new) }
     {
-        go_on_run(alloc, &mut self.run, ended)
+        add_instance_to_run(alloc, &mut self.run, ended)
     }
 
     /// Whether a part of what the instance that was read last was given may stand next.
-    pub fn takes(&self, version: Version, part: &GivenPart) -> bool
+    pub fn may_take_part(&self, version: Version, part: &GivenPart) -> bool
         ensures { result ≡ takes_task version self.now.task part.now }
     {
         match self.last() {
-            Some(task) => takes(version, task, part),
+            Some(task) => task_may_take(version, task, part),
             None => false,
         }
     }
@@ -345,7 +370,7 @@ impl OpenRun {
     pub fn add_part(&mut self, alloc: Global, part: GivenPart) -> Result<(), OutOfMemory>
         ensures { OnOk result (put_part (Some self.old) part ≡ Some self.new) }
     {
-        tell_run(alloc, &mut self.run, part)
+        add_part_to_run(alloc, &mut self.run, part)
     }
 
     /// Gives the run up.

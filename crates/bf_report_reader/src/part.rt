@@ -6,7 +6,7 @@ ghost use Rattle.bf_report_reader.specs.Reads.{Spells, Finds};
 ghost use Rattle.bf_report_reader.specs.Parts.{IsToldValue, IsToldItem, IsToldPulled, IsToldPull, pull_words};
 
 use crate::field::split_field;
-use crate::value::if_spelled;
+use crate::value::value_if_spelled;
 use bf_plan::is_id;
 use bf_report::Pull;
 use bf_try::{LONGEST_VALUE, MOST_ITEMS};
@@ -29,7 +29,7 @@ const DEEPEST_PULLED: usize = DEEPEST + 1;
 const LONGEST_PULLED: usize = MOST_ITEMS * (LONGEST_VALUE + 1) + 1;
 
 /// The value that has this compact JSON text, of at most so many bytes and with lists at most so deep.
-fn told_in(
+fn bounded_value_in(
     alloc: Global,
     text: &[u8],
     deepest: usize,
@@ -46,7 +46,7 @@ fn told_in(
         return Ok(None);
     };
     match read_text(alloc, json, deepest)? {
-        Some(value) => if_spelled(alloc, text, value),
+        Some(value) => value_if_spelled(alloc, text, value),
         None => Ok(None),
     }
 }
@@ -56,7 +56,7 @@ pub(crate) fn item_in(alloc: Global, text: &[u8]) -> Result<Option<Xval>, OutOfM
     ensures some { IfOk result (λ o. IfSome o (Spells IsToldItem json_of text.now)) }
     ensures every { IfOk result (Finds (Spells IsToldItem json_of text.now)) }
 {
-    told_in(alloc, text, DEEPEST, LONGEST_VALUE)
+    bounded_value_in(alloc, text, DEEPEST, LONGEST_VALUE)
 }
 
 /// What was pulled, a value or nothing.
@@ -67,7 +67,7 @@ fn pulled_in(alloc: Global, text: &[u8]) -> Result<Option<Option<Xval>>, OutOfMe
     if text == b"-".as_slice() {
         return Ok(Some(None));
     }
-    match told_in(alloc, text, DEEPEST_PULLED, LONGEST_PULLED)? {
+    match bounded_value_in(alloc, text, DEEPEST_PULLED, LONGEST_PULLED)? {
         None | Some(Xval::Nil) => Ok(None),
         Some(value) => Ok(Some(Some(value))),
     }
@@ -89,7 +89,7 @@ pub(crate) fn pull_in(alloc: Global, text: &[u8]) -> Result<Option<Pull>, OutOfM
     }
     match pulled_in(alloc, value)? {
         Some(value) => Ok(Some(Pull {
-            task: Text::copied(alloc, id)?,
+            task: Text::copy_of(alloc, id)?,
             value: Pulled::new(alloc, value)?,
         })),
         None => Ok(None),

@@ -12,11 +12,11 @@ ghost use Rattle.bf_report_reader.specs.Faults.{longest_line, IsInLine, StopsAt,
 ghost use Rattle.bf_report_reader.specs.Steps.{Steps, EntrySteps, EndsBy, ReadsOn};
 ghost use Rattle.bf_report_reader.specs.Extensions.{SaysHead, IsKnown};
 
-use crate::beginning::Beginning;
+use crate::beginning::ReportSoFar;
 use crate::entry::entry_in;
 use crate::fault::ReportFault;
 use crate::field::{number_in, split_field};
-use crate::held::Held;
+use crate::held::ReadBuffer;
 use crate::interval::run_in;
 use crate::line::{LineEnd, next_line};
 use crate::part::{GivenPart, item_in, pull_in};
@@ -30,7 +30,7 @@ use std::alloc::Global;
 /// one that comes in pieces is put together.
 #[derive(Drop)]
 struct Lines {
-    held: Held,
+    held: ReadBuffer,
     is_held: bool,
     pieces: Vec<u8>,
     number: u64,
@@ -42,7 +42,7 @@ impl Lines {
             (held_bytes lines.held ≡ []) × (lines.held.interruptions ≡ 0) × (lines.number ≡ 0)) }
     {
         Ok(Lines {
-            held: Held::new(alloc)?,
+            held: ReadBuffer::new(alloc)?,
             is_held: false,
             pieces: Vec::new(alloc),
             number: 0,
@@ -130,7 +130,7 @@ fn head_in(alloc: Global, line: &[u8]) -> Result<Option<(Version, Text)>, OutOfM
         return Ok(None);
     };
     match std::str::from_utf8(id) {
-        Ok(id) if is_id(id) => Ok(Some((version, Text::copied(alloc, id)?))),
+        Ok(id) if is_id(id) => Ok(Some((version, Text::copy_of(alloc, id)?))),
         _ => Ok(None),
     }
 }
@@ -150,7 +150,7 @@ fn step_of(taken: bool) -> Step
     if taken { Step::Taken } else { Step::Refused }
 }
 
-fn read_run(alloc: Global, beginning: &mut Beginning, text: &[u8]) -> Result<Step, OutOfMemory>
+fn read_run(alloc: Global, beginning: &mut ReportSoFar, text: &[u8]) -> Result<Step, OutOfMemory>
     requires counted { IsCounted beginning.old }
     requires small { IsSmall beginning.old }
     requires ruled { IsRuled beginning.old }
@@ -170,7 +170,7 @@ fn read_run(alloc: Global, beginning: &mut Beginning, text: &[u8]) -> Result<Ste
 
 fn read_task(
     alloc: Global,
-    beginning: &mut Beginning,
+    beginning: &mut ReportSoFar,
     id: &[u8],
     text: &[u8],
 ) -> Result<Step, OutOfMemory>
@@ -185,7 +185,7 @@ fn read_task(
     }
 }
 
-fn read_item(alloc: Global, beginning: &mut Beginning, text: &[u8]) -> Result<Step, OutOfMemory>
+fn read_item(alloc: Global, beginning: &mut ReportSoFar, text: &[u8]) -> Result<Step, OutOfMemory>
     requires counted { IsCounted beginning.old }
     requires small { IsSmall beginning.old }
     requires ruled { IsRuled beginning.old }
@@ -198,7 +198,7 @@ fn read_item(alloc: Global, beginning: &mut Beginning, text: &[u8]) -> Result<St
     }
 }
 
-fn read_pull(alloc: Global, beginning: &mut Beginning, text: &[u8]) -> Result<Step, OutOfMemory>
+fn read_pull(alloc: Global, beginning: &mut ReportSoFar, text: &[u8]) -> Result<Step, OutOfMemory>
     requires counted { IsCounted beginning.old }
     requires small { IsSmall beginning.old }
     requires ruled { IsRuled beginning.old }
@@ -212,7 +212,7 @@ fn read_pull(alloc: Global, beginning: &mut Beginning, text: &[u8]) -> Result<St
 }
 
 /// Whether the report may end here, with this number of runs.
-fn read_end(beginning: &Beginning, text: &[u8]) -> Step
+fn read_end(beginning: &ReportSoFar, text: &[u8]) -> Step
     requires ruled { IsRuled beginning.now }
     ensures { EndsBy result beginning.now text.now }
 {
@@ -223,7 +223,7 @@ fn read_end(beginning: &Beginning, text: &[u8]) -> Step
 }
 
 /// Adds what a line says to the report, where it may stand next.
-fn read_line(alloc: Global, beginning: &mut Beginning, line: &[u8]) -> Result<Step, OutOfMemory>
+fn read_line(alloc: Global, beginning: &mut ReportSoFar, line: &[u8]) -> Result<Step, OutOfMemory>
     requires counted { IsCounted beginning.old }
     requires small { IsSmall beginning.old }
     requires ruled { IsRuled beginning.old }
@@ -252,7 +252,7 @@ fn read_lines<R: Read>(
     alloc: Global,
     lines: &mut Lines,
     device: &mut R,
-    beginning: &mut Beginning,
+    beginning: &mut ReportSoFar,
 ) -> Result<(), ReportFault>
     requires counted { IsCounted beginning.old }
     requires small { IsSmall beginning.old }
@@ -290,7 +290,7 @@ fn read_head<R: Read>(
     alloc: Global,
     lines: &mut Lines,
     device: &mut R,
-) -> Result<Beginning, ReportFault>
+) -> Result<ReportSoFar, ReportFault>
     requires nothing { held_bytes lines.old.held ≡ [] }
     requires first { lines.old.number ≡ 0 }
     ensures ok { IfOk result (λ beginning. ReadsOn (R.left device.old)
@@ -312,7 +312,7 @@ fn read_head<R: Read>(
 {
     lines.read(device)?;
     match head_in(alloc, lines.line())? {
-        Some((version, dag_id)) => Ok(Beginning::new(alloc, version, dag_id)),
+        Some((version, dag_id)) => Ok(ReportSoFar::new(alloc, version, dag_id)),
         None => Err(ReportFault::BadLine(1)),
     }
 }
@@ -322,7 +322,7 @@ fn read_rest<R: Read>(
     alloc: Global,
     lines: &mut Lines,
     device: &mut R,
-    beginning: &mut Beginning,
+    beginning: &mut ReportSoFar,
 ) -> Result<(), ReportFault>
     requires counted { IsCounted beginning.old }
     requires small { IsSmall beginning.old }

@@ -10,7 +10,7 @@ use bf_xcom::Outcome;
 use std::alloc::Global;
 
 /// A value, where a text is its own.
-pub(crate) fn if_spelled(
+pub(crate) fn value_if_spelled(
     alloc: Global,
     text: &[u8],
     value: Xval,
@@ -35,7 +35,7 @@ fn value_in(alloc: Global, text: &[u8]) -> Result<Option<Xval>, OutOfMemory>
         return Ok(None);
     }
     match read_line(alloc, text) {
-        Ok(Some(value)) => if_spelled(alloc, text, value),
+        Ok(Some(value)) => value_if_spelled(alloc, text, value),
         Ok(None) | Err(LineFault::NotUtf8) => Ok(None),
         Err(LineFault::OutOfMemory) => Err(OutOfMemory),
     }

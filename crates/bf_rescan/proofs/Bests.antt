@@ -15,7 +15,7 @@ use Rattle.bf_core.specs.Checks.{HasRows}
 use Rattle.bf_core.specs.Cores.{Backfill, IsReplay, MayCome}
 use Rattle.bf_core.proofs.Enabling.{present_there}
 use Rattle.bf_waiting.specs.Choices.{IsPreferred, NameComesBefore, IsNextTry}
-use Rattle.bf_rescan.specs.Looks.{AreWeights, IsBest, IsTryAt, IsTryBefore, IsTryOf, better_of, instances_of}
+use Rattle.bf_rescan.specs.Looks.{AreWeights, IsBest, IsTryAt, IsTryBefore, IsTryOf, weightier_try_of, instances_of}
 use Rattle.bf_rescan.proofs.Present.{IsTryBelow, one_named, named_so, below_count, last_task, one_more_task, last_run, one_more_run}
 
 -- the best of some tries is the best of others, where all that may begin of the one are of the other
@@ -46,7 +46,7 @@ module _ (b : Backfill) (rows : HasRows b.dag b.state) (weights : List ℕ) (are
 
   -- the better of the best of some tries and the best of later ones is the best of them all
   pub best_joined : (P Q : JobName → Type 0) → ((m n : JobName) → P m → Q n → NameComesBefore b.dag m n) → (best found : Option JobName) → IsBest b P best → IsBest b Q found →
-      IsBest b (λ m. P m ⊎ Q m) (better_of weights best found)
+      IsBest b (λ m. P m ⊎ Q m) (weightier_try_of weights best found)
   best_joined P Q later None None none nor = λ m h able. elim h [ inl p ↦ none m p able | inr q ↦ nor m q able ]
   best_joined P Q later None (Some f) none is = (inr is.0, is.1, λ m h able. elim h [ inl p ↦ absurd (none m p able) | inr q ↦ is.2 m q able ])
   best_joined P Q later (Some a) None is nor = (inl is.0, is.1, λ m h able. elim h [ inl p ↦ is.2 m p able | inr q ↦ absurd (nor m q able) ])
@@ -64,7 +64,7 @@ module _ (b : Backfill) (rows : HasRows b.dag b.state) (weights : List ℕ) (are
   task_later k t m n h e = elim h [ inl l ↦ inl (omega (arith, l, e.0)) | inr x ↦ inr (x.0 ∙ sym e.0, inl (omega (arith, x.1, e.1))) ]
 
   -- one more task
-  pub best_more : (k t : ℕ) (best found : Option JobName) → IsBest b (IsTryBefore k t) best → IsBest b (IsTryOf k t) found → IsBest b (IsTryBefore k (t + 1)) (better_of weights best found)
+  pub best_more : (k t : ℕ) (best found : Option JobName) → IsBest b (IsTryBefore k t) best → IsBest b (IsTryOf k t) found → IsBest b (IsTryBefore k (t + 1)) (weightier_try_of weights best found)
   best_more k t best found one two =
       best_of b (λ m. IsTryBefore k t m ⊎ IsTryOf k t m) (IsTryBefore k (t + 1)) (one_more_task k t) (λ m h able. last_task k t m h) _
       (best_joined (IsTryBefore k t) (IsTryOf k t) (task_later k t) best found one two)

@@ -14,7 +14,7 @@ use Rattle.bf_core.specs.Cores.{Backfill, IsReplay, MayCome, WaitsLater}
 use Rattle.bf_core.proofs.Enabling.{present_there}
 use Rattle.bf_waiting.proofs.Soonest.{min_left, min_right}
 use Rattle.bf_waiting.specs.Choices.{IsNextMoment}
-use Rattle.bf_rescan.specs.Looks.{IsLeast, IsSoonest, IsTryAt, IsTryBefore, IsTryOf, sooner_of, instances_of}
+use Rattle.bf_rescan.specs.Looks.{IsLeast, IsSoonest, IsTryAt, IsTryBefore, IsTryOf, earlier_moment_of, instances_of}
 use Rattle.bf_core.proofs.Named.{present_named}
 use Rattle.bf_rescan.proofs.Present.{IsTryBelow, one_named, named_so, phase_at, below_count, last_place, one_more_place, last_task, one_more_task, last_run, one_more_run}
 
@@ -24,7 +24,7 @@ soonest_of b P Q there back None is = λ n q waits. is n (back n q waits) waits
 soonest_of b P Q there back (Some m) is = record { name = is.name; is_one = there is.name is.is_one; waits = is.waits; is_moment = is.is_moment; least = λ n q w. is.least n (back n q w) w }
 
 -- the sooner of the soonest of some tries and the soonest of others is the soonest of them all
-soonest_joined : (b : Backfill) (P Q : JobName → Type 0) (one two : Option ℤ) → IsSoonest b P one → IsSoonest b Q two → IsSoonest b (λ n. P n ⊎ Q n) (sooner_of one two)
+soonest_joined : (b : Backfill) (P Q : JobName → Type 0) (one two : Option ℤ) → IsSoonest b P one → IsSoonest b Q two → IsSoonest b (λ n. P n ⊎ Q n) (earlier_moment_of one two)
 soonest_joined b P Q None None none nor = λ n h waits. elim h [ inl p ↦ none n p waits | inr q ↦ nor n q waits ]
 soonest_joined b P Q None (Some f) none is = record {
   name = is.name;
@@ -57,7 +57,7 @@ soonest_joined b P Q (Some a) (Some f) one two = by_lt_z f a
     }))
 
 -- one more place
-pub place_more : (b : Backfill) (k t i : ℕ) (one two : Option ℤ) → IsSoonest b (IsTryBelow b.dag k t i) one → IsSoonest b (IsTryAt b.dag k t i) two → IsSoonest b (IsTryBelow b.dag k t (i + 1)) (sooner_of one two)
+pub place_more : (b : Backfill) (k t i : ℕ) (one two : Option ℤ) → IsSoonest b (IsTryBelow b.dag k t i) one → IsSoonest b (IsTryAt b.dag k t i) two → IsSoonest b (IsTryBelow b.dag k t (i + 1)) (earlier_moment_of one two)
 place_more b k t i one two is here =
     soonest_of b (λ n. IsTryBelow b.dag k t i n ⊎ IsTryAt b.dag k t i n) (IsTryBelow b.dag k t (i + 1)) (one_more_place b.dag k t i) (λ n h w. last_place b.dag k t i n h) _
     (soonest_joined b (IsTryBelow b.dag k t i) (IsTryAt b.dag k t i) one two is here)
@@ -69,7 +69,7 @@ task_passed b k t i end one is =
     (λ n h w. let x : _ = below_count b.dag b.state k t n h Phase.Waiting w.waits in (h, omega (arith, x.1, end))) one is
 
 -- one more task
-pub task_more : (b : Backfill) (k t : ℕ) (one two : Option ℤ) → IsSoonest b (IsTryBefore k t) one → IsSoonest b (IsTryOf k t) two → IsSoonest b (IsTryBefore k (t + 1)) (sooner_of one two)
+pub task_more : (b : Backfill) (k t : ℕ) (one two : Option ℤ) → IsSoonest b (IsTryBefore k t) one → IsSoonest b (IsTryOf k t) two → IsSoonest b (IsTryBefore k (t + 1)) (earlier_moment_of one two)
 task_more b k t one two is here =
     soonest_of b (λ n. IsTryBefore k t n ⊎ IsTryOf k t n) (IsTryBefore k (t + 1)) (one_more_task k t) (λ n h w. last_task k t n h) _
     (soonest_joined b (IsTryBefore k t) (IsTryOf k t) one two is here)
@@ -99,7 +99,7 @@ none_before b = λ n h w. elim h [ inl l ↦ omega (arith, l) | inr e ↦ omega 
 -- ---- the try of an instance
 
 -- one more place, which the try at it is
-pub place_next : (b : Backfill) (k t i : ℕ) (one two three : Option ℤ) → three ≡ sooner_of one two → IsSoonest b (IsTryBelow b.dag k t i) one → IsSoonest b (IsTryAt b.dag k t i) two → IsSoonest b (IsTryBelow b.dag k t (i + 1)) three
+pub place_next : (b : Backfill) (k t i : ℕ) (one two three : Option ℤ) → three ≡ earlier_moment_of one two → IsSoonest b (IsTryBelow b.dag k t i) one → IsSoonest b (IsTryAt b.dag k t i) two → IsSoonest b (IsTryBelow b.dag k t (i + 1)) three
 place_next b k t i one two three same is here = rw same (place_more b k t i one two is here)
 
 module _ (b : Backfill) (replayed : IsReplay b) (k t i : ℕ) (x : Instance) (is_held : instance_of (cell_at b.state k t) i ≡ Some x) where

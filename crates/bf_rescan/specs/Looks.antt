@@ -7,7 +7,7 @@ use Rattle.bf_core.specs.Cores.{Backfill, MayCome, WaitsLater}
 use Rattle.bf_core.specs.Events.{place_in}
 pub use Rattle.bf_waiting.specs.Choices.{AreWeights}
 pub use Rattle.bf_waiting.specs.Standings.{instances_of}
-pub use Rattle.bf_waiting.specs.Looks.{sooner_of}
+pub use Rattle.bf_waiting.specs.Looks.{earlier_moment_of}
 use Rattle.bf_waiting.specs.Choices.{IsPreferred}
 
 -- a try of the task in the run
@@ -32,10 +32,10 @@ IsBest backfill These (Some name) =
     → IsPreferred backfill.dag backfill.limits name other)
 
 -- the second where it weighs more, else the first
-abbrev pub better_of : List ℕ → Option JobName → Option JobName → Option JobName
-better_of weights None found = found
-better_of weights (Some best) None = Some best
-better_of weights (Some best) (Some other) =
+abbrev pub weightier_try_of : List ℕ → Option JobName → Option JobName → Option JobName
+weightier_try_of weights None found = found
+weightier_try_of weights (Some best) None = Some best
+weightier_try_of weights (Some best) (Some other) =
     if nat_lt (slice_index weights best.task) (slice_index weights other.task) then Some other
     else Some best
 

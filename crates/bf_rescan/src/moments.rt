@@ -6,7 +6,7 @@ ghost use Rattle.bf_waiting.specs.Choices.{IsNextMoment};
 ghost use Rattle.bf_rescan.specs.Looks.{IsSoonest, IsTryAt, IsTryBefore, IsTryOf};
 
 use bf_core::{Core, Instance, Phase, name_of};
-use bf_waiting::{instances_of, sooner};
+use bf_waiting::{earlier_moment, instances_of};
 
 /// The later moment for which the instance at a place waits.
 fn moment_at(core: &Core<'_>, run: u32, task: u32, place: usize, instance: &Instance) -> Option<i64>
@@ -18,18 +18,18 @@ fn moment_at(core: &Core<'_>, run: u32, task: u32, place: usize, instance: &Inst
     if !matches!(instance.phase, Phase::Waiting) {
         return None;
     }
-    core.moment(name_of(core.plan().dag(), run, task, place, instance.attempt))
+    core.later_moment_of(name_of(core.plan().dag(), run, task, place, instance.attempt))
 }
 
 /// The least of the later moments for which the instances of a task wait.
-fn soonest_of_task(core: &Core<'_>, run: u32, task: u32) -> Option<i64>
+fn earliest_moment_of_task(core: &Core<'_>, run: u32, task: u32) -> Option<i64>
     requires { IsThere core.now.dag core.now.state run task }
     ensures { IsSoonest core.now (IsTryOf run task) result }
 {
     let instances = instances_of(core, run, task);
     let mut soonest = None;
     for place in 0..instances.len() {
-        soonest = sooner(
+        soonest = earlier_moment(
             soonest,
             moment_at(core, run, task, place, &instances[place]),
         );
@@ -38,7 +38,7 @@ fn soonest_of_task(core: &Core<'_>, run: u32, task: u32) -> Option<i64>
 }
 
 /// The least of the later moments of the earlier runs and of this one.
-fn soonest_of_run(core: &Core<'_>, run: u32, earlier: Option<i64>) -> Option<i64>
+fn earliest_moment_up_to_run(core: &Core<'_>, run: u32, earlier: Option<i64>) -> Option<i64>
     requires run { run < length core.now.state.runs }
     requires earlier { IsSoonest core.now (IsTryBefore run 0) earlier }
     ensures { IsSoonest core.now (IsTryBefore (run + 1) 0) result }
@@ -46,7 +46,7 @@ fn soonest_of_run(core: &Core<'_>, run: u32, earlier: Option<i64>) -> Option<i64
     let _replayed = core.journal();
     let mut soonest = earlier;
     for task in 0..core.plan().dag().tasks.len() {
-        soonest = sooner(soonest, soonest_of_task(core, run, task as u32));
+        soonest = earlier_moment(soonest, earliest_moment_of_task(core, run, task as u32));
     }
     soonest
 }
@@ -58,8 +58,8 @@ pub fn next_moment(core: &Core<'_>) -> Option<i64>
 {
     let _replayed = core.journal();
     let mut soonest = None;
-    for run in 0..core.runs() {
-        soonest = soonest_of_run(core, run, soonest);
+    for run in 0..core.run_count() {
+        soonest = earliest_moment_up_to_run(core, run, soonest);
     }
     soonest
 }

@@ -10,12 +10,12 @@ use bf_core::{Core, Event};
 use bf_due::may_decide;
 
 /// The first run that may be closed.
-fn first_close(core: &Core<'_>) -> Option<u32>
+fn first_closable_run(core: &Core<'_>) -> Option<u32>
     ensures may_come { IfSome result (λ k. MayCome core.now (Event.Close k)) }
     ensures first { IfSome result (λ k. (j : ℕ) → MayCome core.now (Event.Close j) → k ≤ j) }
     ensures none { IfNone result ((j : ℕ) → ¬ (MayCome core.now (Event.Close j))) }
 {
-    for run in 0..core.runs() {
+    for run in 0..core.run_count() {
         if core.may_close(run) {
             return Some(run);
         }
@@ -24,7 +24,7 @@ fn first_close(core: &Core<'_>) -> Option<u32>
 }
 
 /// The first task of a run that may be decided.
-fn first_task(core: &Core<'_>, order: &[u32], run: u32, expands: bool) -> Option<u32>
+fn first_decidable_task(core: &Core<'_>, order: &[u32], run: u32, expands: bool) -> Option<u32>
     requires { IsByRank (shape_of core.now.dag).upstreams order.now }
     ensures may_come { IfSome result (λ t. MayCome core.now (deciding expands run t)) }
     ensures first { IfSome result (λ t. (u : ℕ) → MayCome core.now (deciding expands run u)
@@ -40,15 +40,15 @@ fn first_task(core: &Core<'_>, order: &[u32], run: u32, expands: bool) -> Option
 }
 
 /// The first run with its first task that may be decided.
-fn first_decision(core: &Core<'_>, order: &[u32], expands: bool) -> Option<(u32, u32)>
+fn first_decidable_run_and_task(core: &Core<'_>, order: &[u32], expands: bool) -> Option<(u32, u32)>
     requires { IsByRank (shape_of core.now.dag).upstreams order.now }
     ensures may_come { IfSome result (λ p. MayCome core.now (deciding expands p.0 p.1)) }
     ensures first { IfSome result (λ p. (k u : ℕ) → MayCome core.now (deciding expands k u)
         → IsEarlier core.now.dag p.0 p.1 k u) }
     ensures none { IfNone result ((k u : ℕ) → ¬ (MayCome core.now (deciding expands k u))) }
 {
-    for run in 0..core.runs() {
-        if let Some(task) = first_task(core, order, run, expands) {
+    for run in 0..core.run_count() {
+        if let Some(task) = first_decidable_task(core, order, run, expands) {
             return Some((run, task));
         }
     }
@@ -61,13 +61,13 @@ pub fn next_step(core: &Core<'_>, order: &[u32]) -> Option<Event>
     requires by_rank { IsByRank (shape_of core.now.dag).upstreams order.now }
     ensures { IsNextStep core.now result }
 {
-    if let Some(run) = first_close(core) {
+    if let Some(run) = first_closable_run(core) {
         Some(Event::Close { run })
     } else if core.may_open() {
         Some(Event::Open)
-    } else if let Some((run, task)) = first_decision(core, order, false) {
+    } else if let Some((run, task)) = first_decidable_run_and_task(core, order, false) {
         Some(Event::Settle { run, task })
-    } else if let Some((run, task)) = first_decision(core, order, true) {
+    } else if let Some((run, task)) = first_decidable_run_and_task(core, order, true) {
         Some(Event::Expand { run, task })
     } else {
         None

@@ -3,15 +3,15 @@ ghost use Rattle.std.specs.Prelude.{◌≡◌, ◌<◌, ◌≤◌, ◌+◌, leng
 ghost use Rattle.bf_core.specs.Cores.{IsThere};
 ghost use Rattle.bf_core.specs.Events.{cell_at, instance_of};
 ghost use Rattle.bf_waiting.specs.Choices.{IsNextTry};
-ghost use Rattle.bf_rescan.specs.Looks.{AreWeights, IsBest, IsTryAt, IsTryBefore, IsTryOf, better_of};
+ghost use Rattle.bf_rescan.specs.Looks.{AreWeights, IsBest, IsTryAt, IsTryBefore, IsTryOf, weightier_try_of};
 
 use bf_core::{Core, Instance, name_of};
 use bf_value::JobName;
 use bf_waiting::{instances_of, weight_of};
 
 /// The second try where it weighs more, else the first.
-fn better(weights: &[u32], best: Option<JobName>, found: Option<JobName>) -> Option<JobName>
-    ensures { result ≡ better_of weights.now best found }
+fn weightier_try(weights: &[u32], best: Option<JobName>, found: Option<JobName>) -> Option<JobName>
+    ensures { result ≡ weightier_try_of weights.now best found }
 {
     match (best, found) {
         (None, found) => found,
@@ -48,7 +48,7 @@ fn try_at(
 }
 
 /// The first try of a task in a run that may begin.
-fn first_of_task(core: &Core<'_>, run: u32, task: u32) -> Option<JobName>
+fn first_try_of_task(core: &Core<'_>, run: u32, task: u32) -> Option<JobName>
     requires { IsThere core.now.dag core.now.state run task }
     ensures { IsBest core.now (IsTryOf run task) result }
 {
@@ -65,7 +65,7 @@ fn first_of_task(core: &Core<'_>, run: u32, task: u32) -> Option<JobName>
 }
 
 /// The best try of the earlier runs and of this one.
-fn best_of_run(
+fn best_try_up_to_run(
     core: &Core<'_>,
     weights: &[u32],
     run: u32,
@@ -79,7 +79,7 @@ fn best_of_run(
     let _replayed = core.journal();
     let mut best = earlier;
     for task in 0..core.plan().dag().tasks.len() {
-        best = better(weights, best, first_of_task(core, run, task as u32));
+        best = weightier_try(weights, best, first_try_of_task(core, run, task as u32));
     }
     best
 }
@@ -92,8 +92,8 @@ pub fn next_try(core: &Core<'_>, weights: &[u32]) -> Option<JobName>
 {
     let _replayed = core.journal();
     let mut best = None;
-    for run in 0..core.runs() {
-        best = best_of_run(core, weights, run, best);
+    for run in 0..core.run_count() {
+        best = best_try_up_to_run(core, weights, run, best);
     }
     best
 }

@@ -11,7 +11,7 @@ use Rattle.bf_reason.specs.Letters.{letter_for}
 use Rattle.bf_reason.specs.Reasons.{reason}
 use Rattle.bf_reason.specs.Runs.{tasks_in, tasks_before}
 use Rattle.bf_reason.specs.Settled.{before_among, seen_among, value_among}
-use Rattle.bf_why.specs.Since.{failures, has_of, skips}
+use Rattle.bf_why.specs.Since.{failures, has_instance_of, skips}
 use Rattle.bf_roots.specs.declared.step.Began.{Began}
 use Rattle.bf_roots.specs.declared.step.Root.{Root}
 use Rattle.bf_roots.specs.declared.step.WalkStep.{WalkStep}
@@ -24,14 +24,14 @@ is_tried_in told = false
 -- ---- what began at a place
 
 -- of a task that ran: an instance failed, or else one exited with 99
-abbrev pub ended_as_in : List TaskReport → ℕ → Option Began
-ended_as_in tasks task =
-    if has_of tasks failures task then Some Began.Failed
-    else (if has_of tasks skips task then Some Began.Exited else None)
+abbrev pub began_by_end_in : List TaskReport → ℕ → Option Began
+began_by_end_in tasks task =
+    if has_instance_of tasks failures task then Some Began.Failed
+    else (if has_instance_of tasks skips task then Some Began.Exited else None)
 
 abbrev pub began_if_tried : List TaskReport → ℕ → Option TaskReport → Option Began
 began_if_tried tasks task None = None
-began_if_tried tasks task (Some told) = if is_tried_in told then ended_as_in tasks task else None
+began_if_tried tasks task (Some told) = if is_tried_in told then began_by_end_in tasks task else None
 
 abbrev pub began_in : List TaskReport → ℕ → Option Began → Option Began
 began_in tasks task (Some began) = Some began
@@ -58,13 +58,13 @@ skips_for_skipped_in Rule.NoneFailedMinOneSuccess = true
 skips_for_skipped_in Rule.NoneSkipped = true
 skips_for_skipped_in rule = false
 
-abbrev pub alone_of : Option ℕ → List ℕ
-alone_of None = []
-alone_of (Some task) = task ∷ []
+abbrev pub tasks_of_option_of : Option ℕ → List ℕ
+tasks_of_option_of None = []
+tasks_of_option_of (Some task) = task ∷ []
 
 abbrev pub skipped_among : List TaskReport → Task → List ℕ
 skipped_among tasks task =
-    if skips_for_skipped_in task.rule then filter (has_of tasks skips) task.upstreams else []
+    if skips_for_skipped_in task.rule then filter (has_instance_of tasks skips) task.upstreams else []
 
 -- the tasks that made it so, by the cause
 abbrev pub next_tasks_of : Dag → List TaskReport → ℕ → StateCause → List ℕ
@@ -77,11 +77,11 @@ next_tasks_of dag tasks task StateCause.BranchIsBlocked =
 next_tasks_of dag tasks task StateCause.UpstreamIsBlocked =
     filter (λ u. is_blocked_in (value_among tasks u)) (task_of dag task).upstreams
 next_tasks_of dag tasks task StateCause.RuleFails =
-    filter (has_of tasks failures) (task_of dag task).upstreams
+    filter (has_instance_of tasks failures) (task_of dag task).upstreams
 next_tasks_of dag tasks task StateCause.RuleSkips = skipped_among tasks (task_of dag task)
 next_tasks_of dag tasks task StateCause.PastHasNotPassed = task ∷ []
-next_tasks_of dag tasks task StateCause.ItemsAreMissing = alone_of (task_of dag task).expand
-next_tasks_of dag tasks task StateCause.HasNoItems = alone_of (task_of dag task).expand
+next_tasks_of dag tasks task StateCause.ItemsAreMissing = tasks_of_option_of (task_of dag task).expand
+next_tasks_of dag tasks task StateCause.HasNoItems = tasks_of_option_of (task_of dag task).expand
 next_tasks_of dag tasks task cause = []
 
 -- in the same run, and for its past in the run before
@@ -90,14 +90,14 @@ next_run_of run StateCause.PastHasNotPassed = run - 1
 next_run_of run cause = run
 
 -- it ends at a branch that doesn't follow the task, and at a source without items
-abbrev pub ends_with_in : StateCause → Option Began
-ends_with_in StateCause.NotFollowed = Some Began.Pushed
-ends_with_in StateCause.HasNoItems = Some Began.PushedNoItems
-ends_with_in cause = None
+abbrev pub began_by_cause_in : StateCause → Option Began
+began_by_cause_in StateCause.NotFollowed = Some Began.Pushed
+began_by_cause_in StateCause.HasNoItems = Some Began.PushedNoItems
+began_by_cause_in cause = None
 
 abbrev pub step_by : ℕ → StateCause → ℕ → WalkStep
 step_by run cause task =
-    record { run = next_run_of run cause; task = task; began = ends_with_in cause }
+    record { run = next_run_of run cause; task = task; began = began_by_cause_in cause }
 
 abbrev pub cause_among : Dag → List TaskReport → List TaskReport → ℕ → ℕ → StateCause
 cause_among dag tasks before run task =

@@ -1,31 +1,34 @@
 //! What began at a place, and where the walk goes on from there.
 ghost use Rattle.std.specs.Prelude.{◌≡◌, ◌≤◌, ◌<◌, ◌++◌, IfOk, OnOk, length, map, slice_get};
-ghost use Rattle.bf_roots.specs.Onward.{alone_of, began_in, ended_as_in, ends_with_in, goes_on_in, is_tried_in, next_run_of, next_tasks_of, onward_among, onward_of, onward_if_told, roots_among, skipped_among, skips_for_skipped_in, step_by};
+ghost use Rattle.bf_roots.specs.Onward.{tasks_of_option_of, began_in, began_by_end_in, began_by_cause_in, goes_on_in, is_tried_in, next_run_of, next_tasks_of, onward_among, onward_of, onward_if_told, roots_among, skipped_among, skips_for_skipped_in, step_by};
 
 use crate::step::{Began, Root, WalkStep};
-use crate::upstreams::{blocked_branches, blocked_tasks, branches_that_skip, tasks_in};
+use crate::upstreams::{blocked_branches, blocked_tasks, branches_that_skip, tasks_in_states};
 use bf_plan::{Plan, Task};
 use bf_reason::{Settled, StateCause, cause_at, is_expanded};
 use bf_report::TaskReport;
 use bf_rule::Rule;
 use bf_value::OutOfMemory;
-use bf_why::{States, has_in, is_foreign};
+use bf_why::{States, has_instance_in, is_foreign};
 use std::alloc::Global;
 
 /// Whether a task has a try.
 pub fn is_tried(told: &Settled<'_>) -> bool
     ensures { result ≡ is_tried_in told.now }
 {
-    matches!(told.told(), TaskReport::Ran(_) | TaskReport::Mapped(_))
+    matches!(
+        told.task_report(),
+        TaskReport::Ran(_) | TaskReport::Mapped(_)
+    )
 }
 
 /// How a task that ran ended, where something began there.
-fn ended_as(settled: &[Settled<'_>], task: u32) -> Option<Began>
-    ensures { result ≡ ended_as_in settled.now task }
+fn began_by_end(settled: &[Settled<'_>], task: u32) -> Option<Began>
+    ensures { result ≡ began_by_end_in settled.now task }
 {
-    if has_in(settled, States::FAILURES, task) {
+    if has_instance_in(settled, States::FAILURES, task) {
         Some(Began::Failed)
-    } else if has_in(settled, States::SKIPPED, task) {
+    } else if has_instance_in(settled, States::SKIPPED, task) {
         Some(Began::Exited)
     } else {
         None
@@ -37,7 +40,7 @@ fn began_at(settled: &[Settled<'_>], task: u32, began: Option<Began>) -> Option<
 {
     match (began, settled.get(task as usize)) {
         (Some(began), _) => Some(began),
-        (None, Some(told)) if is_tried(told) => ended_as(settled, task),
+        (None, Some(told)) if is_tried(told) => began_by_end(settled, task),
         (None, _) => None,
     }
 }
@@ -70,8 +73,8 @@ fn skips_for_skipped(rule: Rule) -> bool
     )
 }
 
-fn alone(alloc: Global, task: Option<u32>) -> Result<Vec<u32>, OutOfMemory>
-    ensures { IfOk result (λ tasks. tasks.items ≡ alone_of task) }
+fn tasks_of_option(alloc: Global, task: Option<u32>) -> Result<Vec<u32>, OutOfMemory>
+    ensures { IfOk result (λ tasks. tasks.items ≡ tasks_of_option_of task) }
 {
     let mut tasks = Vec::new(alloc);
     if let Some(task) = task {
@@ -89,7 +92,7 @@ fn skipped_upstreams(
 {
     if skips_for_skipped(task.rule) {
         let upstreams = task.upstreams.as_slice();
-        Ok(tasks_in(alloc, settled, upstreams, States::SKIPPED)?)
+        Ok(tasks_in_states(alloc, settled, upstreams, States::SKIPPED)?)
     } else {
         Ok(Vec::new(alloc))
     }
@@ -114,10 +117,10 @@ fn next_tasks(
         StateCause::NotFollowed => Ok(branches_that_skip(alloc, plan, settled, upstreams, task)?),
         StateCause::BranchIsBlocked => Ok(blocked_branches(alloc, dag, settled, upstreams)?),
         StateCause::UpstreamIsBlocked => Ok(blocked_tasks(alloc, settled, upstreams)?),
-        StateCause::RuleFails => Ok(tasks_in(alloc, settled, upstreams, States::FAILURES)?),
+        StateCause::RuleFails => Ok(tasks_in_states(alloc, settled, upstreams, States::FAILURES)?),
         StateCause::RuleSkips => skipped_upstreams(alloc, settled, made),
-        StateCause::PastHasNotPassed => alone(alloc, Some(task)),
-        StateCause::ItemsAreMissing | StateCause::HasNoItems => alone(alloc, made.expand),
+        StateCause::PastHasNotPassed => tasks_of_option(alloc, Some(task)),
+        StateCause::ItemsAreMissing | StateCause::HasNoItems => tasks_of_option(alloc, made.expand),
         StateCause::Waits | StateCause::Runs(_) => Ok(Vec::new(alloc)),
     }
 }
@@ -132,8 +135,8 @@ fn next_run(run: u32, cause: StateCause) -> u32
 }
 
 /// What began where the walk ends for this cause.
-fn ends_with(cause: StateCause) -> Option<Began>
-    ensures { result ≡ ends_with_in cause }
+fn began_by_cause(cause: StateCause) -> Option<Began>
+    ensures { result ≡ began_by_cause_in cause }
 {
     match cause {
         StateCause::NotFollowed => Some(Began::Pushed),
@@ -151,7 +154,7 @@ fn steps_to(
     ensures { IfOk result (λ steps. steps.items ≡ map (step_by run cause) tasks.now) }
 {
     let run = next_run(run, cause);
-    let began = ends_with(cause);
+    let began = began_by_cause(cause);
     let mut steps = Vec::with_capacity(alloc, tasks.len())?;
     for task in tasks {
         let task = *task;
@@ -167,7 +170,7 @@ fn goes_on(is_expanded: bool, cause: StateCause, told: &Settled<'_>) -> bool
 }
 
 /// From a task that the report has so, of which this is the cause.
-fn onward_for(
+fn steps_for_cause(
     alloc: Global,
     plan: &Plan,
     settled: &[Settled<'_>],
@@ -188,7 +191,7 @@ fn onward_for(
     }
 }
 
-fn onward_from(
+fn steps_from(
     alloc: Global,
     plan: &Plan,
     settled: &[Settled<'_>],
@@ -204,14 +207,14 @@ fn onward_from(
     match settled.get(task as usize) {
         Some(told) => {
             let cause = cause_at(plan, run as usize, settled, before, task);
-            onward_for(alloc, plan, settled, run, task, cause, told)
+            steps_for_cause(alloc, plan, settled, run, task, cause, told)
         }
         None => Ok(Vec::new(alloc)),
     }
 }
 
 /// Where the walk goes on, by what a report has of the tasks of the run and of the run before.
-pub(crate) fn onward(
+pub(crate) fn steps_onward(
     alloc: Global,
     plan: &Plan,
     settled: &[Settled<'_>],
@@ -227,5 +230,5 @@ pub(crate) fn onward(
     if step.began.is_some() {
         return Ok(Vec::new(alloc));
     }
-    onward_from(alloc, plan, settled, before, step.run, step.task)
+    steps_from(alloc, plan, settled, before, step.run, step.task)
 }

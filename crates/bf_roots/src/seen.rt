@@ -6,7 +6,7 @@ use bf_value::{OutOfMemory, Sequence};
 use std::alloc::Global;
 
 /// For each of so many runs a mark for each of so many tasks, of which none is seen.
-pub(crate) fn unseen(
+pub(crate) fn unseen_rows(
     alloc: Global,
     runs: usize,
     tasks: usize,
@@ -40,7 +40,7 @@ fn is_seen_in(row: &[bool], task: u32) -> bool
 }
 
 /// Marks a task in a run.
-pub(crate) fn see(seen: &mut Vec<Sequence<bool>>, run: u32, task: u32)
+pub(crate) fn mark_seen(seen: &mut Vec<Sequence<bool>>, run: u32, task: u32)
     requires { is_seen_in seen.old.items run task ≡ false }
     ensures { seen.new.items ≡ with_seen seen.old.items run task }
 {

@@ -2,11 +2,11 @@
 ghost use Rattle.std.specs.Prelude.{◌≡◌, ◌<◌, IfOk, Some, filter, length};
 ghost use Rattle.bf_core.specs.Deciding.{branch_is, branch_skips, is_blocked_in};
 ghost use Rattle.bf_reason.specs.Settled.{value_among};
-ghost use Rattle.bf_why.specs.Since.{has_of};
+ghost use Rattle.bf_why.specs.Since.{has_instance_of};
 
 use bf_plan::{Dag, Plan};
-use bf_reason::{Settled, is_blocked, is_blocked_branch, skips};
-use bf_why::{States, has_in};
+use bf_reason::{Settled, is_blocked, is_blocked_branch, is_skipping_branch};
+use bf_why::{States, has_instance_in};
 use std::alloc::{AllocError, Global};
 
 /// The branches that succeeded and don't follow a task.
@@ -24,7 +24,7 @@ pub(crate) fn branches_that_skip(
     upstreams
         .iter()
         .copied()
-        .filter(|upstream| skips(plan, settled, *upstream, task))
+        .filter(|upstream| is_skipping_branch(plan, settled, *upstream, task))
         .collect(alloc)
 }
 
@@ -60,18 +60,18 @@ pub(crate) fn blocked_tasks(
 }
 
 /// Those with an instance in these states.
-pub(crate) fn tasks_in(
+pub(crate) fn tasks_in_states(
     alloc: Global,
     settled: &[Settled<'_>],
     upstreams: &[u32],
     states: States,
 ) -> Result<Vec<u32>, AllocError>
     ensures { IfOk result (λ found. found.items
-        ≡ filter (has_of settled.now states) upstreams.now) }
+        ≡ filter (has_instance_of settled.now states) upstreams.now) }
 {
     upstreams
         .iter()
         .copied()
-        .filter(|upstream| has_in(settled, states, *upstream))
+        .filter(|upstream| has_instance_in(settled, states, *upstream))
         .collect(alloc)
 }

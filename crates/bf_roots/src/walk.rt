@@ -4,8 +4,8 @@ ghost use Rattle.bf_reason.specs.Settled.{IsFewTask};
 ghost use Rattle.bf_roots.specs.Showing.{LooksAt};
 ghost use Rattle.bf_roots.specs.Walks.{AreRootsOf, first_step_of, is_seen_in, nothing_seen};
 
-use crate::onward::{add_root, onward};
-use crate::seen::{is_seen, see, unseen};
+use crate::onward::{add_root, steps_onward};
+use crate::seen::{is_seen, mark_seen, unseen_rows};
 use crate::step::{Root, WalkStep};
 use crate::window::Window;
 use bf_plan::Plan;
@@ -37,7 +37,7 @@ impl Trail {
         ensures left { IfOk result (λ trail. trail.left.items ≡ step ∷ []) }
         ensures found { IfOk result (λ trail. trail.found.items ≡ []) }
     {
-        let seen = unseen(alloc, runs, tasks)?;
+        let seen = unseen_rows(alloc, runs, tasks)?;
         let mut left = Vec::new(alloc);
         left.push(step)?;
         let found = Vec::new(alloc);
@@ -45,7 +45,7 @@ impl Trail {
     }
 
     /// Looks at a place where it hasn't been.
-    fn look(
+    fn visit(
         &mut self,
         alloc: Global,
         plan: &Plan,
@@ -57,9 +57,9 @@ impl Trail {
         ensures { OnOk result (LooksAt plan.now.dag window.now.settled.items window.now.before.items
             step self.old self.new) }
     {
-        see(&mut self.seen, step.run, step.task);
+        mark_seen(&mut self.seen, step.run, step.task);
         add_root(&mut self.found, &window.settled, step)?;
-        let mut steps = onward(alloc, plan, &window.settled, &window.before, step)?;
+        let mut steps = steps_onward(alloc, plan, &window.settled, &window.before, step)?;
         steps.reverse();
         self.left.extend_from_slice(steps.as_slice())?;
         Ok(())
@@ -88,7 +88,7 @@ pub fn roots_of(
             continue;
         }
         window = window.moved(alloc, report, step.run)?;
-        trail.look(alloc, plan, &window, step)?;
+        trail.visit(alloc, plan, &window, step)?;
     }
     Ok(trail.found)
 }

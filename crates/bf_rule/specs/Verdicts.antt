@@ -51,40 +51,40 @@ is_waiting Always = false
 is_waiting _ = true
 
 -- what the rule looks for is among the instances finished so far
-abbrev pub fires_in : Rule → Counts → Bool
-fires_in OneSuccess counts = nat_lt 0 counts.success
-fires_in OneFailed counts = nat_lt 0 (failures_of counts)
-fires_in OneDone counts = nat_lt 0 (counts.success + counts.failed)
-fires_in Always counts = true
-fires_in _ counts = false
+abbrev pub is_rule_met_in : Rule → Counts → Bool
+is_rule_met_in OneSuccess counts = nat_lt 0 counts.success
+is_rule_met_in OneFailed counts = nat_lt 0 (failures_of counts)
+is_rule_met_in OneDone counts = nat_lt 0 (counts.success + counts.failed)
+is_rule_met_in Always counts = true
+is_rule_met_in _ counts = false
 
 -- the table of the rules, over upstreams that have all finished
-abbrev pub table_of : Rule → Counts → Verdict
-table_of AllSuccess counts =
+abbrev pub verdict_by_table_of : Rule → Counts → Verdict
+verdict_by_table_of AllSuccess counts =
     if nat_lt 0 (failures_of counts) then UpstreamFailed
     else (if nat_lt 0 counts.skipped then Skip else Run)
-table_of AllFailed counts = if failures_of counts == finished_of counts then Run else Skip
-table_of AllSkipped counts = if counts.skipped == finished_of counts then Run else Skip
-table_of AllDone counts = Run
-table_of OneSuccess counts =
+verdict_by_table_of AllFailed counts = if failures_of counts == finished_of counts then Run else Skip
+verdict_by_table_of AllSkipped counts = if counts.skipped == finished_of counts then Run else Skip
+verdict_by_table_of AllDone counts = Run
+verdict_by_table_of OneSuccess counts =
     if nat_lt 0 counts.success then Run
     else (if counts.skipped == finished_of counts then Skip else UpstreamFailed)
-table_of OneFailed counts = if nat_lt 0 (failures_of counts) then Run else Skip
-table_of OneDone counts = if nat_lt 0 (counts.success + counts.failed) then Run else Skip
-table_of NoneFailed counts = if nat_lt 0 (failures_of counts) then UpstreamFailed else Run
-table_of NoneFailedMinOneSuccess counts =
+verdict_by_table_of OneFailed counts = if nat_lt 0 (failures_of counts) then Run else Skip
+verdict_by_table_of OneDone counts = if nat_lt 0 (counts.success + counts.failed) then Run else Skip
+verdict_by_table_of NoneFailed counts = if nat_lt 0 (failures_of counts) then UpstreamFailed else Run
+verdict_by_table_of NoneFailedMinOneSuccess counts =
     if nat_lt 0 (failures_of counts) then UpstreamFailed
     else (if nat_lt 0 counts.success then Run else Skip)
-table_of NoneSkipped counts = if nat_lt 0 counts.skipped then Skip else Run
-table_of Always counts = Run
+verdict_by_table_of NoneSkipped counts = if nat_lt 0 counts.skipped then Skip else Run
+verdict_by_table_of Always counts = Run
 
 -- no upstreams, or the rule fires early: run. Else an unfinished upstream: wait. Else a blocked one: block. Else the table
 unfoldable pub verdict_of : Rule → Counts → Verdict
 verdict_of rule counts =
-    if (total_of counts == 0) || fires_in rule counts then Run
+    if (total_of counts == 0) || is_rule_met_in rule counts then Run
     else (if nat_lt 0 counts.unfinished then Wait
     else (if nat_lt 0 counts.blocked then Blocked
-    else table_of rule counts))
+    else verdict_by_table_of rule counts))
 
 -- ---- what finishes later
 

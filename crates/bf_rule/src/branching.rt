@@ -70,8 +70,8 @@ fn follows_by_name(graph: &Graph, branch: u32, name: &str, task: u32) -> bool
     ensures { result ≡ followed_by_name graph.now branch task (Some name.now) }
 {
     let _tasks = graph.len();
-    graph.ranks();
-    graph.distinct();
+    graph.tasks_have_ranks();
+    graph.ids_are_distinct();
     match graph.number_of(name) {
         Some(named) => {
             is_direct_downstream(graph, branch, named) && is_or_reaches(graph, named, task)
@@ -100,12 +100,12 @@ fn follows_by_values(graph: &Graph, branch: u32, values: &[Xval], task: u32) -> 
         .any(|value| follows_by_value(graph, branch, value, task))
 }
 
-fn follows(graph: &Graph, branch: u32, value: &Xval, task: u32) -> bool
+fn follows_by_pushed(graph: &Graph, branch: u32, value: &Xval, task: u32) -> bool
     requires { task < length graph.now.upstreams }
     ensures { result ≡ followed_at graph.now branch (Some value.now) task }
 {
     let _tasks = graph.len();
-    graph.ranks();
+    graph.tasks_have_ranks();
     match value {
         Xval::Text(name) => follows_by_name(graph, branch, name.as_str(), task),
         Xval::List(values) => follows_by_values(graph, branch, values.as_slice(), task),
@@ -120,7 +120,7 @@ pub fn followed(graph: &Graph, branch: u32, value: Option<&Xval>, task: u32) -> 
     ensures { result ≡ followed_at graph.now branch (option_map (λ v. v.now) value.entry) task }
 {
     match value {
-        Some(value) => follows(graph, branch, value, task),
+        Some(value) => follows_by_pushed(graph, branch, value, task),
         None => false,
     }
 }

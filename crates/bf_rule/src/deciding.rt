@@ -1,6 +1,6 @@
 //! Verdicts.
 ghost use Rattle.std.specs.Prelude.{◌≡◌, ◌+◌, ◌<◌, ◌^◌, if◌then◌else◌};
-ghost use Rattle.bf_rule.specs.Verdicts.{verdict_of, add, failures_of, finished_of, total_of, fires_in, table_of};
+ghost use Rattle.bf_rule.specs.Verdicts.{verdict_of, add, failures_of, finished_of, total_of, is_rule_met_in, verdict_by_table_of};
 
 use crate::rule::{Counts, Rule, Verdict};
 
@@ -50,8 +50,8 @@ impl Counts {
 }
 
 /// Whether a rule finds what it looks for among these, whatever comes of others.
-pub fn fires(rule: Rule, counts: &Counts) -> bool
-    ensures { result ≡ fires_in rule counts.now }
+pub fn is_rule_met(rule: Rule, counts: &Counts) -> bool
+    ensures { result ≡ is_rule_met_in rule counts.now }
 {
     match rule {
         Rule::OneSuccess => counts.success > 0,
@@ -62,30 +62,30 @@ pub fn fires(rule: Rule, counts: &Counts) -> bool
     }
 }
 
-fn run_or(runs: bool, otherwise: Verdict) -> Verdict
+fn run_if(runs: bool, otherwise: Verdict) -> Verdict
     ensures { result ≡ (if runs then Verdict.Run else otherwise) }
 {
     if runs { Verdict::Run } else { otherwise }
 }
 
-fn table(rule: Rule, counts: &Counts) -> Verdict
-    ensures { result ≡ table_of rule counts.now }
+fn verdict_by_table(rule: Rule, counts: &Counts) -> Verdict
+    ensures { result ≡ verdict_by_table_of rule counts.now }
 {
     let failures = counts.failures();
     let finished = counts.finished();
     match rule {
         Rule::AllSuccess if failures > 0 => Verdict::UpstreamFailed,
-        Rule::AllSuccess => run_or(counts.skipped == 0, Verdict::Skip),
-        Rule::AllFailed => run_or(failures == finished, Verdict::Skip),
-        Rule::AllSkipped => run_or(u64::from(counts.skipped) == finished, Verdict::Skip),
+        Rule::AllSuccess => run_if(counts.skipped == 0, Verdict::Skip),
+        Rule::AllFailed => run_if(failures == finished, Verdict::Skip),
+        Rule::AllSkipped => run_if(u64::from(counts.skipped) == finished, Verdict::Skip),
         Rule::OneSuccess if counts.success > 0 => Verdict::Run,
         Rule::OneSuccess if u64::from(counts.skipped) == finished => Verdict::Skip,
         Rule::OneSuccess => Verdict::UpstreamFailed,
-        Rule::OneFailed | Rule::OneDone => run_or(fires(rule, counts), Verdict::Skip),
-        Rule::NoneFailed => run_or(failures == 0, Verdict::UpstreamFailed),
+        Rule::OneFailed | Rule::OneDone => run_if(is_rule_met(rule, counts), Verdict::Skip),
+        Rule::NoneFailed => run_if(failures == 0, Verdict::UpstreamFailed),
         Rule::NoneFailedMinOneSuccess if failures > 0 => Verdict::UpstreamFailed,
-        Rule::NoneFailedMinOneSuccess => run_or(counts.success > 0, Verdict::Skip),
-        Rule::NoneSkipped => run_or(counts.skipped == 0, Verdict::Skip),
+        Rule::NoneFailedMinOneSuccess => run_if(counts.success > 0, Verdict::Skip),
+        Rule::NoneSkipped => run_if(counts.skipped == 0, Verdict::Skip),
         Rule::AllDone | Rule::Always => Verdict::Run,
     }
 }
@@ -98,13 +98,13 @@ fn table(rule: Rule, counts: &Counts) -> Verdict
 pub fn verdict(rule: Rule, counts: &Counts) -> Verdict
     ensures { result ≡ verdict_of rule counts.now }
 {
-    if counts.total() == 0 || fires(rule, counts) {
+    if counts.total() == 0 || is_rule_met(rule, counts) {
         Verdict::Run
     } else if counts.unfinished > 0 {
         Verdict::Wait
     } else if counts.blocked > 0 {
         Verdict::Blocked
     } else {
-        table(rule, counts)
+        verdict_by_table(rule, counts)
     }
 }

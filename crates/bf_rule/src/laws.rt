@@ -23,5 +23,5 @@ pub fn followed_tasks_are_named_or_reached(graph: &Graph)
         ↔ IsNamedOrReached graph.now branch value task }
 {
     let _tasks = graph.len();
-    graph.ranks();
+    graph.tasks_have_ranks();
 }

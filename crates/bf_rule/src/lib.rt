@@ -10,6 +10,6 @@ mod laws;
 mod rule;
 
 pub use branching::{followed, names_downstreams};
-pub use deciding::{fires, verdict};
+pub use deciding::{is_rule_met, verdict};
 pub use laws::{followed_tasks_are_named_or_reached, verdicts_stay};
 pub use rule::{Counts, Rule, Verdict};

@@ -41,7 +41,7 @@ impl Rule {
     }
 
     /// Whether a task of this rule is decided only once its upstreams are settled, and not before.
-    pub fn waits(self) -> bool
+    pub fn waits_until_settled(self) -> bool
         ensures { result ≡ is_waiting self }
     {
         !matches!(

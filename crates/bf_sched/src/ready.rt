@@ -60,7 +60,7 @@ fn last_event<'c>(core: &'c Core<'_>) -> Option<&'c Event>
 
 impl<'a> Ready<'a> {
     /// Of a backfill as far as it has come.
-    pub fn of(alloc: Global, core: Core<'a>) -> Result<Ready<'a>, OutOfMemory>
+    pub fn new(alloc: Global, core: Core<'a>) -> Result<Ready<'a>, OutOfMemory>
         ensures { IfOk result (λ ready. ready ≡ core.entry) }
     {
         let due = Due::new(alloc, &core)?;
@@ -108,21 +108,21 @@ impl<'a> Ready<'a> {
     pub fn next_step(&self) -> Option<Event>
         ensures { IsNextStep self.now result }
     {
-        self.due.first()
+        self.due.next_step()
     }
 
     /// Of the tries that may begin now the one of the greatest total weight, and of several the first.
     pub fn next_try(&self) -> Option<JobName>
         ensures { IsNextTry self.now result }
     {
-        self.waiting.first(&self.core)
+        self.waiting.next_try(&self.core)
     }
 
     /// The least of the later moments for which tries wait, in seconds since 1970.
     pub fn next_moment(&self) -> Option<i64>
         ensures { IsNextMoment self.now result }
     {
-        self.waiting.moment()
+        self.waiting.next_moment()
     }
 
     /// What the backfill came to, where it has ended; else it is handed back.

@@ -54,7 +54,7 @@ impl<'a> Model for Scheduler<'a> {
 }
 
 /// Lets an event come that may come, so that nothing but want of memory is in its way.
-fn advance(ready: &mut Ready<'_>, event: Event) -> Result<(), OutOfMemory>
+fn apply_allowed(ready: &mut Ready<'_>, event: Event) -> Result<(), OutOfMemory>
     requires { MayCome ready.old event }
     ensures ok { OnOk result (ready.new ≡ moved ready.old event) }
     ensures same { OnErr result (ready.new ≡ ready.old) }
@@ -67,7 +67,7 @@ fn advance(ready: &mut Ready<'_>, event: Event) -> Result<(), OutOfMemory>
 }
 
 /// Lets the clock come to a moment, and says whether it may.
-fn come_to(ready: &mut Ready<'_>, moment: i64) -> Result<bool, OutOfMemory>
+fn try_tick(ready: &mut Ready<'_>, moment: i64) -> Result<bool, OutOfMemory>
     ensures ok { IfOk result (λ came. HasComeTo ready.old moment came ready.new) }
     ensures same { OnErr result (ready.new ≡ ready.old) }
 {
@@ -89,7 +89,7 @@ fn begin(alloc: Global, ready: &mut Ready<'_>, name: JobName) -> Result<Ticket, 
         None => unreachable!(),
         Some(instance) => {
             let given = instance.given.copy(alloc)?;
-            advance(ready, Event::Begin(name))?;
+            apply_allowed(ready, Event::Begin(name))?;
             Ok(Ticket::issue(name, given))
         }
     }
@@ -108,7 +108,7 @@ fn grade_answer(alloc: Global, core: &Core<'_>, done: &Done) -> Result<Outcome, 
     if name.task as usize >= core.plan().dag().tasks.len() {
         return Err(Illegal::Stranger);
     }
-    if let Some(instance) = core.running(name) {
+    if let Some(instance) = core.running_instance(name) {
         if !instance.given.is_same(done.given()) {
             return Err(Illegal::Stranger);
         }
@@ -128,7 +128,7 @@ impl<'a> Scheduler<'a> {
     {
         Ok(Scheduler {
             alloc,
-            ready: Ready::of(alloc, core)?,
+            ready: Ready::new(alloc, core)?,
             workers,
             running: 0,
         })
@@ -158,7 +158,7 @@ impl<'a> Scheduler<'a> {
     {
         let _replayed = self.ready.journal();
         if let Some(event) = self.ready.next_step() {
-            advance(&mut self.ready, event)?;
+            apply_allowed(&mut self.ready, event)?;
             return Ok(Next::Stepped);
         }
         if self.running < self.workers.count() {
@@ -185,7 +185,7 @@ impl<'a> Scheduler<'a> {
         ensures same { OnErr result (self.new ≡ self.old) }
     {
         let _replayed = self.ready.journal();
-        let came = come_to(&mut self.ready, moment)?;
+        let came = try_tick(&mut self.ready, moment)?;
         Ok(came)
     }
 
@@ -228,7 +228,7 @@ impl<'a> Scheduler<'a> {
     }
 
     /// Ends the try of an answer that may end so: nothing but want of memory is in its way.
-    pub fn finish_running(&mut self, done: Done) -> Result<(), OutOfMemory>
+    pub fn finish_allowed(&mut self, done: Done) -> Result<(), OutOfMemory>
         requires { MayFinish self.old.backfill done }
         ensures ok { OnOk result (HasFinished self.old done self.new) }
         ensures same { OnErr result (self.new ≡ self.old) }

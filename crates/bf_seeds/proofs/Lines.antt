@@ -10,7 +10,7 @@ use Rattle.bf_plan.specs.declared.plan.Dag.{Dag}
 use Rattle.bf_dependents.specs.declared.seeds.Seed.{Seed}
 use Rattle.bf_seeds.specs.declared.fault.SeedsFault.{SeedsFault}
 use Rattle.bf_seeds.specs.declared.fault.SeedsFault.TheVariants.{BadFile, BadSeed, Unknown, OutOfMemory}
-use Rattle.bf_seeds.specs.Seeds.{cut_of, is_space, parts, AreSeeds, IsEarliest, IsFaultOfLine, IsFaultOfSeed, IsFirstFault, IsSeedOf, SpellsSeed}
+use Rattle.bf_seeds.specs.Seeds.{split_at_space_of, is_space, parts, AreSeeds, IsEarliest, IsFaultOfLine, IsFaultOfSeed, IsFirstFault, IsSeedOf, SpellsSeed}
 
 not_below : (n : ℕ) → nat_lt n n ≡ false
 not_below n = grind arith
@@ -18,7 +18,7 @@ not_below n = grind arith
 -- what `split_once` gives is the cut
 pub cut_is : (text : List ℕ) (r : Option (Bor (List ℕ) × Bor (List ℕ))) →
     MatchOption r (position_or_len is_space text ≡ length text) (λ x. (position_or_len is_space text < length text) × (x.0.now ≡ before_first is_space text) × (x.1.now ≡ after_first is_space text)) →
-    option_map (λ p. (p.0.now, p.1.now)) r ≡ cut_of text
+    option_map (λ p. (p.0.now, p.1.now)) r ≡ split_at_space_of text
 cut_is text None e = sym (ap (λ n. parts (nat_lt n (length text)) text) e ∙ ap (λ b. parts b text) (not_below (length text)))
 cut_is text (Some x) (low, first, rest) = (λ i. Some (first i, rest i)) ∙ sym (ap (λ b. parts b text) (lt-ltb (position_or_len is_space text) (length text) low))
 

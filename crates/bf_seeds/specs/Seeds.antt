@@ -36,8 +36,8 @@ parts true text = Some (before_first is_space text, after_first is_space text)
 parts false text = None
 
 -- what stands before the first space, and what behind it
-abbrev pub cut_of : List ℕ → Option (List ℕ × List ℕ)
-cut_of text = parts (nat_lt (position_or_len is_space text) (length text)) text
+abbrev pub split_at_space_of : List ℕ → Option (List ℕ × List ℕ)
+split_at_space_of text = parts (nat_lt (position_or_len is_space text) (length text)) text
 
 -- the text means this moment
 abbrev pub Means : List ℕ → Timestamp → Type 0
@@ -58,11 +58,11 @@ SpellsTask text (Some (first, rest)) task index =
 abbrev pub SpellsParts : Option (List ℕ × List ℕ) → Seed → Type 0
 SpellsParts None seed = ⊥
 SpellsParts (Some (run, rest)) seed =
-    Means run seed.run × SpellsTask rest (cut_of rest) seed.task seed.index
+    Means run seed.run × SpellsTask rest (split_at_space_of rest) seed.task seed.index
 
 -- the line is a moment and a task, and maybe a map index, with one space between them
 abbrev pub SpellsSeed : List ℕ → Seed → Type 0
-SpellsSeed line seed = SpellsParts (cut_of line) seed
+SpellsSeed line seed = SpellsParts (split_at_space_of line) seed
 
 abbrev pub is_filled : List ℕ → Bool
 is_filled line = not (length line == 0)

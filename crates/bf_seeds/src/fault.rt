@@ -21,12 +21,12 @@ pub enum SeedsFault {
 
 impl SeedsFault {
     /// The number of the refusal, which want of memory doesn't have.
-    pub fn number(&self) -> Option<u32>
+    pub fn refusal_number(&self) -> Option<u32>
         ensures { result ≡ fault_number self.now }
     {
         match self {
             SeedsFault::BadFile | SeedsFault::BadSeed(_) => Some(45),
-            SeedsFault::Unknown(fault) => fault.number(),
+            SeedsFault::Unknown(fault) => fault.refusal_number(),
             SeedsFault::OutOfMemory => None,
         }
     }

@@ -1,7 +1,7 @@
 //! Lines of a seeds file.
 ghost use Rattle.std.specs.Prelude.{◌≡◌, ℕ, ℤ, List, Option, IfSome, IfNone, option_map};
 ghost use Rattle.bf_dependents.specs.declared.seeds.Seed.{Seed};
-ghost use Rattle.bf_seeds.specs.Seeds.{cut_of, SpellsSeed, SpellsTask};
+ghost use Rattle.bf_seeds.specs.Seeds.{split_at_space_of, SpellsSeed, SpellsTask};
 ghost use Rattle.bf_seeds.specs.Words.{seed_of};
 
 use crate::index::index_in;
@@ -17,8 +17,8 @@ pub(crate) struct Words<'a> {
 }
 
 /// What stands before the first space, and what behind it.
-fn cut(text: &str) -> Option<(&str, &str)>
-    ensures { option_map (λ p. (p.0.now, p.1.now)) result ≡ cut_of text.now }
+fn split_at_space(text: &str) -> Option<(&str, &str)>
+    ensures { option_map (λ p. (p.0.now, p.1.now)) result ≡ split_at_space_of text.now }
 {
     text.split_once(' ')
 }
@@ -26,11 +26,11 @@ fn cut(text: &str) -> Option<(&str, &str)>
 /// The task that a text names, and the map index.
 fn task_in(text: &str) -> Option<(&str, Option<i32>)>
     ensures found { IfSome result
-        (λ found. SpellsTask text.now (cut_of text.now) found.0.now found.1) }
+        (λ found. SpellsTask text.now (split_at_space_of text.now) found.0.now found.1) }
     ensures none { IfNone result ((task : List ℕ) (index : Option ℤ)
-        → SpellsTask text.now (cut_of text.now) task index → ⊥) }
+        → SpellsTask text.now (split_at_space_of text.now) task index → ⊥) }
 {
-    match cut(text) {
+    match split_at_space(text) {
         None if text.is_empty() => None,
         None => Some((text, None)),
         Some((task, index)) => {
@@ -49,7 +49,7 @@ pub(crate) fn words_in(line: &str) -> Option<Words<'_>>
     ensures found { IfSome result (λ words. SpellsSeed line.now (seed_of words)) }
     ensures none { IfNone result ((seed : Seed) → SpellsSeed line.now seed → ⊥) }
 {
-    let (run, rest) = cut(line)?;
+    let (run, rest) = split_at_space(line)?;
     let run = moment_in(run)?;
     let (task, index) = task_in(rest)?;
     Some(Words { run, task, index })

@@ -23,7 +23,7 @@ fn lines_of(alloc: Global, text: &str) -> Result<Vec<&str>, AllocError>
 fn bad_seed(alloc: Global, line: &str) -> SeedsFault
     ensures { (result ≡ TheVariants.BadSeed line.now) ⊎ (result ≡ TheVariants.OutOfMemory) }
 {
-    match Text::copied(alloc, line) {
+    match Text::copy_of(alloc, line) {
         Ok(line) => SeedsFault::BadSeed(line),
         Err(_) => SeedsFault::OutOfMemory,
     }
@@ -41,7 +41,7 @@ fn refuse_unknown(plan: &Plan, intervals: &[Interval], seed: &Seed) -> Result<()
 }
 
 /// The seed of a line.
-fn seed_at(
+fn seed_in_line(
     alloc: Global,
     plan: &Plan,
     intervals: &[Interval],
@@ -53,7 +53,7 @@ fn seed_at(
     let Some(words) = words_in(line) else {
         return Err(bad_seed(alloc, line));
     };
-    let task = Text::copied(alloc, words.task)?;
+    let task = Text::copy_of(alloc, words.task)?;
     let seed = Seed {
         task,
         run: words.run,
@@ -65,7 +65,7 @@ fn seed_at(
     }
 }
 
-fn add(seeds: &mut Vec<Seed>, seed: Seed) -> Result<(), OutOfMemory>
+fn add_seed(seeds: &mut Vec<Seed>, seed: Seed) -> Result<(), OutOfMemory>
     ensures { OnOk result (seeds.new.items ≡ seeds.old.items ++ seed ∷ []) }
 {
     seeds.push(seed)?;
@@ -85,8 +85,8 @@ fn seeds_of(
 {
     let mut seeds = Vec::new(alloc);
     for line in lines {
-        match seed_at(alloc, plan, intervals, line) {
-            Ok(seed) => add(&mut seeds, seed)?,
+        match seed_in_line(alloc, plan, intervals, line) {
+            Ok(seed) => add_seed(&mut seeds, seed)?,
             Err(fault) => return Err(fault),
         }
     }

@@ -36,7 +36,7 @@ fn run_state_string(state: RunState) -> &'static str
 }
 
 /// What each line of a run begins with.
-fn start_of(alloc: Global, run: &RunReport) -> Result<String, OutOfMemory>
+fn line_start_of(alloc: Global, run: &RunReport) -> Result<String, OutOfMemory>
     ensures { IfOk result (λ text. string_bytes text ≡ run_start run.now) }
 {
     let mut text = String::from_str(alloc, "{\"run\":")?;
@@ -186,7 +186,7 @@ fn push_run(
     ensures { OnOk result (string_bytes text.new ≡ string_bytes text.old
         ++ run_lines ids.now run.now) }
 {
-    let start = start_of(alloc, run)?;
+    let start = line_start_of(alloc, run)?;
     let lines = RunLines { run, start };
     lines.push_tasks(alloc, text, ids, run.tasks.as_slice())
 }
@@ -207,7 +207,7 @@ fn push_runs(
 }
 
 /// The lines of a report.
-pub(crate) fn text_of_lines(alloc: Global, report: &Report) -> Result<String, OutOfMemory>
+pub(crate) fn text_of_json_lines(alloc: Global, report: &Report) -> Result<String, OutOfMemory>
     ensures { IfOk result (λ text. string_bytes text ≡ json_lines report.now) }
 {
     let mut text = String::new(alloc);

@@ -17,7 +17,7 @@ use std::alloc::Global;
 pub fn push_string(alloc: Global, text: &mut String, word: &str) -> Result<(), OutOfMemory>
     ensures { OnOk result (string_bytes text.new ≡ string_bytes text.old ++ quoted word.now) }
 {
-    let value = Xval::Text(Text::copied(alloc, word)?);
+    let value = Xval::Text(Text::copy_of(alloc, word)?);
     text.push_str(text_of(alloc, &value)?.as_str())?;
     Ok(())
 }

@@ -3,7 +3,7 @@ ghost use Rattle.std.specs.Prelude.{◌≡◌, ◌≤◌, length, take, OnOk, If
 ghost use Rattle.bf_device.specs.Device.{sent, HasHalted, HasGoneOn};
 ghost use Rattle.bf_show.specs.JsonLines.{json_lines};
 
-use crate::lines::text_of_lines;
+use crate::lines::text_of_json_lines;
 use bf_device::{Cause, Write, WriteFault, send};
 use bf_report::Report;
 use std::alloc::Global;
@@ -27,7 +27,7 @@ pub fn write_json_lines<W: Write>(
         (W.interruptions out.old) (W.interruptions out.new)) }
     ensures memory { IfErr result (λ fault. fault.cause ≡ Cause.OutOfMemory → fault.sent ≡ 0) }
 {
-    match text_of_lines(alloc, report) {
+    match text_of_json_lines(alloc, report) {
         Ok(text) => send(out, text.as_bytes()),
         Err(_) => Err(WriteFault {
             sent: 0,

@@ -7,28 +7,28 @@ use Rattle.bf_value.proofs.ReadLemmas.{drop_item}
 use Rattle.bf_plan.proofs.ListLemmas.{position_cons}
 use Rattle.bf_table.specs.declared.table.TableEntry.{TableEntry}
 use Rattle.bf_table.specs.declared.table_index.Pattern.{Pattern}
-use Rattle.bf_table.specs.TableIndex.{earlier_of, first_of_key, first_of_keys, is_pattern, pattern_cmp, pattern_in}
+use Rattle.bf_table.specs.TableIndex.{earlier_place_of, first_of_key, first_of_keys, is_pattern, pattern_cmp, pattern_in}
 
 -- ---- the earliest
 
-pub earlier_assoc : (a b c : Option ℕ) → earlier_of (earlier_of a b) c ≡ earlier_of a (earlier_of b c)
+pub earlier_assoc : (a b c : Option ℕ) → earlier_place_of (earlier_place_of a b) c ≡ earlier_place_of a (earlier_place_of b c)
 earlier_assoc None b c = refl
 earlier_assoc (Some a) None c = refl
 earlier_assoc (Some a) (Some b) None = refl
 earlier_assoc (Some a) (Some b) (Some c) = ap Some (omega arith)
 
 -- what is found for two keys
-pub two_keys : (get : Pattern → Option ℕ) (one other : Pattern) → earlier_of (get one) (get other) ≡ first_of_keys get (one ∷ other ∷ [])
-two_keys get one other = ap (earlier_of (get one)) (alone (get other))
+pub two_keys : (get : Pattern → Option ℕ) (one other : Pattern) → earlier_place_of (get one) (get other) ≡ first_of_keys get (one ∷ other ∷ [])
+two_keys get one other = ap (earlier_place_of (get one)) (alone (get other))
   where
-    alone : (o : Option ℕ) → o ≡ earlier_of o None
+    alone : (o : Option ℕ) → o ≡ earlier_place_of o None
     alone None = refl
     alone (Some n) = refl
 
 -- what is found for two groups of keys
-pub two_groups : (get : Pattern → Option ℕ) (ones others : List Pattern) → earlier_of (first_of_keys get ones) (first_of_keys get others) ≡ first_of_keys get (ones ++ others)
+pub two_groups : (get : Pattern → Option ℕ) (ones others : List Pattern) → earlier_place_of (first_of_keys get ones) (first_of_keys get others) ≡ first_of_keys get (ones ++ others)
 two_groups get [] others = refl
-two_groups get (key ∷ keys) others = earlier_assoc (get key) (first_of_keys get keys) (first_of_keys get others) ∙ ap (earlier_of (get key)) (two_groups get keys others)
+two_groups get (key ∷ keys) others = earlier_assoc (get key) (first_of_keys get keys) (first_of_keys get others) ∙ ap (earlier_place_of (get key)) (two_groups get keys others)
 
 -- ---- each pattern's first entry
 

@@ -15,8 +15,8 @@ use Rattle.bf_value.specs.declared.name.JobName.{JobName}
 use Rattle.bf_plan.proofs.ListLemmas.{some_same}
 use Rattle.bf_table.specs.declared.table.TableEntry.{TableEntry}
 use Rattle.bf_table.specs.declared.table_index.Pattern.{Pattern}
-use Rattle.bf_table.specs.Tables.{answers_for_in, is_number_in, is_text_in}
-use Rattle.bf_table.specs.TableIndex.{date_named, earlier_of, first_of_keys, is_pattern, keys_of, keys_with_date, keys_with_index, keys_with_task, number_named, pattern_cmp, pattern_in, IsIndexOf, pattern_of_try}
+use Rattle.bf_table.specs.Tables.{answers_for_in, matches_number_in, matches_text_in}
+use Rattle.bf_table.specs.TableIndex.{date_named, earlier_place_of, first_of_keys, is_pattern, keys_of, keys_with_date, keys_with_index, keys_with_task, number_named, pattern_cmp, pattern_in, IsIndexOf, pattern_of_try}
 use Rattle.bf_plan.proofs.ListLemmas.{position_cons}
 use Rattle.bf_try.proofs.Pushes.{same_answer}
 
@@ -31,7 +31,7 @@ never_passes : {X : Type 0} (xs : List X) → position (λ x. false) xs ≡ None
 never_passes [] = refl
 never_passes (x ∷ xs) = position_cons (λ y. false) x xs ∙ ap (option_map suc) (never_passes xs)
 
-either : (a b : Bool) (m n : Option ℕ) → (if a || b then Some 0 else option_map suc (earlier_of m n)) ≡ earlier_of (if a then Some 0 else option_map suc m) (if b then Some 0 else option_map suc n)
+either : (a b : Bool) (m n : Option ℕ) → (if a || b then Some 0 else option_map suc (earlier_place_of m n)) ≡ earlier_place_of (if a then Some 0 else option_map suc m) (if b then Some 0 else option_map suc n)
 either true true m n = refl
 either true false m None = refl
 either true false m (Some n) = ap Some (omega arith)
@@ -42,11 +42,11 @@ either false false None (Some n) = refl
 either false false (Some m) None = refl
 either false false (Some m) (Some n) = ap Some (omega arith)
 
-one_passes : {X : Type 0} (p q : X → Bool) (xs : List X) → position (λ x. p x || q x) xs ≡ earlier_of (position p xs) (position q xs)
+one_passes : {X : Type 0} (p q : X → Bool) (xs : List X) → position (λ x. p x || q x) xs ≡ earlier_place_of (position p xs) (position q xs)
 one_passes p q [] = refl
 one_passes p q (x ∷ xs) =
     position_cons (λ y. p y || q y) x xs ∙ ap (λ o. if p x || q x then Some 0 else option_map suc o) (one_passes p q xs)
-    ∙ either (p x) (q x) (position p xs) (position q xs) ∙ ap₂ earlier_of (sym (position_cons p x xs)) (sym (position_cons q x xs))
+    ∙ either (p x) (q x) (position p xs) (position q xs) ∙ ap₂ earlier_place_of (sym (position_cons p x xs)) (sym (position_cons q x xs))
 
 find_passing : {X : Type 0} (p : X → Bool) (xs : List X) → find p xs ≡ option_and_then (slice_get xs) (position p xs)
 find_passing p [] = refl
@@ -62,7 +62,7 @@ first_of_any : (ids : List (List ℕ)) (entries : List TableEntry) (firsts : tre
     → first_of_keys (tree.get pattern_cmp firsts) keys ≡ position (λ e. list_any (λ key. is_pattern key (pattern_in ids e)) keys) entries
 first_of_any ids entries firsts [] index = sym (never_passes entries)
 first_of_any ids entries firsts (key ∷ keys) index =
-    ap₂ earlier_of (index key) (first_of_any ids entries firsts keys index)
+    ap₂ earlier_place_of (index key) (first_of_any ids entries firsts keys index)
     ∙ sym (one_passes (λ e. is_pattern key (pattern_in ids e)) (λ e. list_any (λ k. is_pattern k (pattern_in ids e)) keys) entries)
 
 -- ---- sixteen keys
@@ -137,11 +137,11 @@ module _ (asked : Pattern) (A : Option ℕ → Bool) (B : Option (List ℕ) → 
 test_is : {X : Type 0} {R : X → X → Ordering} → IsTotalOrder R → IsAntisymmetric R → (x y : X) (b : Bool) → (b ≡ true → y ≡ x) → (y ≡ x → b ≡ true) → is_eq (R x y) ≡ b
 test_is {R = R} total same x y b right back = same_answer (is_eq (R x y)) b (λ e. back (sym (same x y ((Equal-is (R x y)).0 e)))) (λ e. ap (λ z. is_eq (R x z)) (right e) ∙ (eq_by_cmp_equiv total).refl x)
 
-named_number : (named : Option ℤ) (n : ℤ) → (is_eq (option_cmp int_cmp None named) || is_eq (option_cmp int_cmp (Some n) named)) ≡ is_number_in named n
+named_number : (named : Option ℤ) (n : ℤ) → (is_eq (option_cmp int_cmp None named) || is_eq (option_cmp int_cmp (Some n) named)) ≡ matches_number_in named n
 named_number None n = refl
 named_number (Some m) n = test_is int_cmp_total int_cmp-IsAntisymmetric n m (int_eq m n) (signed_Decides m n).0 (signed_Decides m n).1
 
-named_date : (named : Option (List ℕ)) (date : List ℕ) → (is_eq (option_cmp (slice_cmp nat_cmp) None named) || is_eq (option_cmp (slice_cmp nat_cmp) (Some date) named)) ≡ is_text_in named date
+named_date : (named : Option (List ℕ)) (date : List ℕ) → (is_eq (option_cmp (slice_cmp nat_cmp) None named) || is_eq (option_cmp (slice_cmp nat_cmp) (Some date) named)) ≡ matches_text_in named date
 named_date None date = refl
 named_date (Some text) date = test_is (lists_total nat_cmp_total) (slice_cmp-IsAntisymmetric nat_cmp-IsAntisymmetric) date text (bytes_eq text date) (bytes_eq-Decides text date).0 (bytes_eq-Decides text date).1
 
@@ -168,15 +168,15 @@ module _ (ids : List (List ℕ)) (id : List ℕ) (t : ℕ) (is : position (bytes
   task_named text None at = same_answer false (bytes_eq text id) (λ e. absurd (true≢false (sym e))) (λ e. let none : None ≡ Some t = numbered text None at e in cc)
   task_named text (Some u) at = test_is nat_cmp_total nat_cmp-IsAntisymmetric t u (bytes_eq text id) (λ e. some_same (numbered text (Some u) at e)) (at_number text u at)
 
-  named_task : (named : Option (List ℕ)) → task_passes t (number_named ids named) ≡ is_text_in named id
+  named_task : (named : Option (List ℕ)) → task_passes t (number_named ids named) ≡ matches_text_in named id
   named_task None = refl
   named_task (Some text) = task_named text (position (bytes_eq text) ids) refl
 
-named_date_in : (date : List ℕ) → length date ≡ 20 → (named : Option (List ℕ)) → date_passes date (date_named named) ≡ is_text_in named date
+named_date_in : (date : List ℕ) → length date ≡ 20 → (named : Option (List ℕ)) → date_passes date (date_named named) ≡ matches_text_in named date
 named_date_in date len None = refl
 named_date_in date len (Some text) = by (length text == 20) refl
   where
-    by : (b : Bool) → (length text == 20) ≡ b → date_passes date (if b then Some (Some text) else None) ≡ is_text_in (Some text) date
+    by : (b : Bool) → (length text == 20) ≡ b → date_passes date (if b then Some (Some text) else None) ≡ matches_text_in (Some text) date
     by true e = named_date (Some text) date
     by false e = same_answer false (bytes_eq text date) (λ f. absurd (true≢false (sym f))) (λ f. let same : length text ≡ 20 = ap length ((bytes_eq-Decides text date).0 f) ∙ len in absurd (true≢false (ap (λ n. n == 20) (sym same) ∙ e)))
 
@@ -191,7 +191,7 @@ eq_parts key p =
     both_equal a (ordering_then b (ordering_then c d)) ∙ ap (λ r. is_eq a && r) (both_equal b (ordering_then c d) ∙ ap (λ r. is_eq b && r) (both_equal c d))
 
 any_pattern : (t : ℕ) (d : List ℕ) (name : JobName) (p : Pattern) → list_any (λ key. is_pattern key (Some p)) (keys_of (pattern_of_try t d name))
-    ≡ (task_passes t (Some p.task) && (date_passes d (Some p.date) && (is_number_in p.index name.index && is_number_in p.attempt (pos name.attempt))))
+    ≡ (task_passes t (Some p.task) && (date_passes d (Some p.date) && (matches_number_in p.index name.index && matches_number_in p.attempt (pos name.attempt))))
 any_pattern t d name p =
     let asked = pattern_of_try t d name in
     list_any_same (λ key. is_pattern key (Some p)) (has asked (λ t. is_eq (option_cmp nat_cmp t p.task)) (λ d. is_eq (option_cmp (slice_cmp nat_cmp) d p.date)) (λ i. is_eq (option_cmp int_cmp i p.index)) (λ a. is_eq (option_cmp int_cmp a p.attempt))) (keys_of asked) (λ key. eq_parts key p)
@@ -212,17 +212,17 @@ module _ (ids : List (List ℕ)) (t : ℕ) (id date : List ℕ) (name : JobName)
   passes : (e : TableEntry) → list_any (λ key. is_pattern key (pattern_in ids e)) (keys_of (pattern_of_try t date name)) ≡ answers_for_in id date name e
   passes e = by (number_named ids e.task) (date_named e.run) (named_task ids id t is e.task) (named_date_in date len e.run)
     where
-      by : (m : Option (Option ℕ)) (k : Option (Option (List ℕ))) → task_passes t m ≡ is_text_in e.task id → date_passes date k ≡ is_text_in e.run date
+      by : (m : Option (Option ℕ)) (k : Option (Option (List ℕ))) → task_passes t m ≡ matches_text_in e.task id → date_passes date k ≡ matches_text_in e.run date
           → list_any (λ key. is_pattern key (option_and_then (λ task. option_map (λ d. record { task = task; date = d; index = e.index; attempt = e.attempt }) k) m)) (keys_of (pattern_of_try t date name))
-          ≡ (((is_text_in e.task id && is_text_in e.run date) && is_number_in e.index name.index) && is_number_in e.attempt (pos name.attempt))
-      by None k x y = none_passes (keys_of (pattern_of_try t date name)) ∙ ap (λ b. ((b && is_text_in e.run date) && is_number_in e.index name.index) && is_number_in e.attempt (pos name.attempt)) x
+          ≡ (((matches_text_in e.task id && matches_text_in e.run date) && matches_number_in e.index name.index) && matches_number_in e.attempt (pos name.attempt))
+      by None k x y = none_passes (keys_of (pattern_of_try t date name)) ∙ ap (λ b. ((b && matches_text_in e.run date) && matches_number_in e.index name.index) && matches_number_in e.attempt (pos name.attempt)) x
       by (Some task) None x y =
-          none_passes (keys_of (pattern_of_try t date name)) ∙ dead (is_text_in e.task id) (is_number_in e.index name.index) (is_number_in e.attempt (pos name.attempt))
-          ∙ ap (λ b. ((is_text_in e.task id && b) && is_number_in e.index name.index) && is_number_in e.attempt (pos name.attempt)) y
+          none_passes (keys_of (pattern_of_try t date name)) ∙ dead (matches_text_in e.task id) (matches_number_in e.index name.index) (matches_number_in e.attempt (pos name.attempt))
+          ∙ ap (λ b. ((matches_text_in e.task id && b) && matches_number_in e.index name.index) && matches_number_in e.attempt (pos name.attempt)) y
       by (Some task) (Some d) x y =
           any_pattern t date name (record { task = task; date = d; index = e.index; attempt = e.attempt })
-          ∙ ap₂ (λ a b. a && (b && (is_number_in e.index name.index && is_number_in e.attempt (pos name.attempt)))) x y
-          ∙ four (is_text_in e.task id) (is_text_in e.run date) (is_number_in e.index name.index) (is_number_in e.attempt (pos name.attempt))
+          ∙ ap₂ (λ a b. a && (b && (matches_number_in e.index name.index && matches_number_in e.attempt (pos name.attempt)))) x y
+          ∙ four (matches_text_in e.task id) (matches_text_in e.run date) (matches_number_in e.index name.index) (matches_number_in e.attempt (pos name.attempt))
 
   -- what is found by the keys is the first entry that answers
   pub first_answers : (entries : List TableEntry) (firsts : tree.BTreeMap Pattern ℕ) → IsIndexOf ids entries firsts

@@ -11,10 +11,10 @@ use Rattle.bf_table.specs.declared.table.TableEntry.{TableEntry}
 use Rattle.bf_table.specs.declared.table_index.Pattern.{Pattern}
 
 -- the less of two numbers, where there are two
-abbrev pub earlier_of : Option ℕ → Option ℕ → Option ℕ
-earlier_of (Some a) (Some b) = Some (min a b)
-earlier_of (Some a) None = Some a
-earlier_of None b = b
+abbrev pub earlier_place_of : Option ℕ → Option ℕ → Option ℕ
+earlier_place_of (Some a) (Some b) = Some (min a b)
+earlier_place_of (Some a) None = Some a
+earlier_place_of None b = b
 
 -- the order of patterns: by task, date, index and try number
 abbrev pub pattern_cmp : Pattern → Pattern → Ordering
@@ -59,7 +59,7 @@ IsIndexOf ids entries firsts =
 -- the earliest of what is found for these keys
 abbrev pub first_of_keys : (Pattern → Option ℕ) → List Pattern → Option ℕ
 first_of_keys get [] = None
-first_of_keys get (key ∷ keys) = earlier_of (get key) (first_of_keys get keys)
+first_of_keys get (key ∷ keys) = earlier_place_of (get key) (first_of_keys get keys)
 
 -- what a try has of all that an entry may name
 abbrev pub pattern_of_try : ℕ → List ℕ → JobName → Pattern

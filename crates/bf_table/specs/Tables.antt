@@ -154,19 +154,19 @@ Gives view (Err OutOfMemory) given = Unit {0}
 -- ---- what a table answers
 
 -- an entry that names none answers for each
-abbrev pub is_text_in : Option (List ℕ) → List ℕ → Bool
-is_text_in None text = true
-is_text_in (Some named) text = bytes_eq named text
+abbrev pub matches_text_in : Option (List ℕ) → List ℕ → Bool
+matches_text_in None text = true
+matches_text_in (Some named) text = bytes_eq named text
 
-abbrev pub is_number_in : Option ℤ → ℤ → Bool
-is_number_in None n = true
-is_number_in (Some named) n = int_eq named n
+abbrev pub matches_number_in : Option ℤ → ℤ → Bool
+matches_number_in None n = true
+matches_number_in (Some named) n = int_eq named n
 
 -- the entry answers for this try of a task with this id, in a run of this logical date
 abbrev pub answers_for_in : List ℕ → List ℕ → JobName → TableEntry → Bool
 answers_for_in id date name entry =
-    is_text_in entry.task id && is_text_in entry.run date && is_number_in entry.index name.index
-    && is_number_in entry.attempt (pos name.attempt)
+    matches_text_in entry.task id && matches_text_in entry.run date && matches_number_in entry.index name.index
+    && matches_number_in entry.attempt (pos name.attempt)
 
 -- status 0 and an empty line, where no entry answers
 abbrev pub raw_in : Option TableEntry → Raw

@@ -50,7 +50,7 @@ pub enum TableFault {
 
 impl TableFault {
     /// The number of the refusal, which want of memory doesn't have.
-    pub fn number(self) -> Option<u32>
+    pub fn refusal_number(self) -> Option<u32>
         ensures { result ≡ fault_number self }
     {
         match self {

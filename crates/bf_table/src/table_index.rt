@@ -1,7 +1,7 @@
 //! Which entry of a table comes first of those that name the same.
 ghost use Rattle.std.specs.Prelude.{◌≡◌, ◌≤◌, ◌<◌, None, Some, IfOk};
 ghost use Rattle.std.specs.BTreeMap;
-ghost use Rattle.bf_table.specs.TableIndex.{date_named, keys_with_date, keys_with_index, keys_with_task, earlier_of, first_of_keys, keys_of, number_named, pattern_cmp, pattern_in, pattern_of_try, IsIndexOf};
+ghost use Rattle.bf_table.specs.TableIndex.{date_named, keys_with_date, keys_with_index, keys_with_task, earlier_place_of, first_of_keys, keys_of, number_named, pattern_cmp, pattern_in, pattern_of_try, IsIndexOf};
 
 use crate::table::TableEntry;
 use bf_graph::Graph;
@@ -35,7 +35,7 @@ impl Pattern {
 /// The number of the first entry with a pattern.
 pub(crate) type Firsts = BTreeMap<Pattern, usize>;
 
-fn named_number(graph: &Graph, named: &Option<Text>) -> Option<Option<u32>>
+fn task_number_named(graph: &Graph, named: &Option<Text>) -> Option<Option<u32>>
     ensures { result ≡ number_named graph.now.ids named.now }
 {
     match named {
@@ -44,7 +44,7 @@ fn named_number(graph: &Graph, named: &Option<Text>) -> Option<Option<u32>>
     }
 }
 
-fn named_date(named: &Option<Text>) -> Option<Option<[u8; 20]>>
+fn run_date_named(named: &Option<Text>) -> Option<Option<[u8; 20]>>
     ensures { result ≡ date_named named.now }
 {
     let Some(named) = named else {
@@ -61,8 +61,8 @@ fn pattern_of(graph: &Graph, entry: &TableEntry) -> Option<Pattern>
     ensures { result ≡ pattern_in graph.now.ids entry.now }
 {
     Some(Pattern {
-        task: named_number(graph, &entry.task)?,
-        date: named_date(&entry.run)?,
+        task: task_number_named(graph, &entry.task)?,
+        date: run_date_named(&entry.run)?,
         index: entry.index,
         attempt: entry.attempt,
     })
@@ -87,8 +87,8 @@ pub(crate) fn firsts_of(
     Ok(firsts)
 }
 
-fn earlier(one: Option<usize>, other: Option<usize>) -> Option<usize>
-    ensures { result ≡ earlier_of one other }
+fn earlier_place(one: Option<usize>, other: Option<usize>) -> Option<usize>
+    ensures { result ≡ earlier_place_of one other }
 {
     match (one, other) {
         (Some(one), Some(other)) => Some(one.min(other)),
@@ -97,7 +97,7 @@ fn earlier(one: Option<usize>, other: Option<usize>) -> Option<usize>
     }
 }
 
-fn first_of(firsts: &Firsts, pattern: Pattern) -> Option<usize>
+fn first_with_pattern(firsts: &Firsts, pattern: Pattern) -> Option<usize>
     ensures { result ≡ BTreeMap.get pattern_cmp firsts.now pattern }
 {
     firsts.get(&pattern).copied()
@@ -124,7 +124,10 @@ fn first_with_index(
         attempt: asked.attempt,
         ..any
     };
-    earlier(first_of(firsts, any), first_of(firsts, same))
+    earlier_place(
+        first_with_pattern(firsts, any),
+        first_with_pattern(firsts, same),
+    )
 }
 
 #[tactic(auto, using(crate::proofs::IndexLemmas::two_groups))]
@@ -139,7 +142,7 @@ fn first_with_date(
 {
     let any = first_with_index(firsts, asked, task, date, None);
     let same = first_with_index(firsts, asked, task, date, asked.index);
-    earlier(any, same)
+    earlier_place(any, same)
 }
 
 #[tactic(auto, using(crate::proofs::IndexLemmas::two_groups))]
@@ -149,14 +152,14 @@ fn first_with_task(firsts: &Firsts, asked: Pattern, task: Option<u32>) -> Option
 {
     let any = first_with_date(firsts, asked, task, None);
     let same = first_with_date(firsts, asked, task, asked.date);
-    earlier(any, same)
+    earlier_place(any, same)
 }
 
 /// The number of the first entry that answers for a try. Each of what a try has is named by the entry, or none is.
-pub(crate) fn first_for(firsts: &Firsts, asked: Pattern) -> Option<usize>
+pub(crate) fn first_for_try(firsts: &Firsts, asked: Pattern) -> Option<usize>
     ensures { result ≡ first_of_keys (BTreeMap.get pattern_cmp firsts.now) (keys_of asked) }
 {
     let any = first_with_task(firsts, asked, None);
     let same = first_with_task(firsts, asked, asked.task);
-    earlier(any, same)
+    earlier_place(any, same)
 }

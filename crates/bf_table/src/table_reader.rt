@@ -10,7 +10,7 @@ ghost use Rattle.bf_table.specs.Tables.{is_key_in, has_known_keys_in, is_entry_i
 
 use crate::table::{TableEntry, TableFault};
 use bf_moment::is_long_moment;
-use bf_try::copied;
+use bf_try::copy_of_bytes;
 use bf_value::{Sequence, Text, last_line};
 use serde_json::{Map, Value};
 use std::alloc::Global;
@@ -45,7 +45,7 @@ fn is_entry(value: &Value) -> bool
     }
 }
 
-fn object_at(number: u32, value: &Value) -> Result<(), TableFault>
+fn refuse_other_object(number: u32, value: &Value) -> Result<(), TableFault>
     ensures { Reads (Some number) (λ u. u) result
         (if is_entry_in (view value.now) then Some tt else None) }
 {
@@ -68,7 +68,11 @@ fn number_at(number: u32, value: &Value) -> Result<i64, TableFault>
     value.as_i64().ok_or(TableFault::BadTable(Some(number)))
 }
 
-fn named_task(alloc: Global, number: u32, value: Option<&Value>) -> Result<Option<Text>, TableFault>
+fn task_if_named(
+    alloc: Global,
+    number: u32,
+    value: Option<&Value>,
+) -> Result<Option<Text>, TableFault>
     ensures { Reads (Some number) (λ t. t) result
         (if_there as_str (option_map (λ v. view v.now) value.entry)) }
 {
@@ -76,10 +80,10 @@ fn named_task(alloc: Global, number: u32, value: Option<&Value>) -> Result<Optio
         return Ok(None);
     };
     let text = text_at(number, value)?;
-    Ok(Some(Text::copied(alloc, text)?))
+    Ok(Some(Text::copy_of(alloc, text)?))
 }
 
-fn named_number(number: u32, value: Option<&Value>) -> Result<Option<i64>, TableFault>
+fn number_if_named(number: u32, value: Option<&Value>) -> Result<Option<i64>, TableFault>
     ensures { Reads (Some number) (λ n. n) result
         (if_there number_of (option_map (λ v. view v.now) value.entry)) }
 {
@@ -100,7 +104,11 @@ fn date_at<'a>(number: u32, value: &'a Value) -> Result<&'a str, TableFault>
     }
 }
 
-fn named_run(alloc: Global, number: u32, value: Option<&Value>) -> Result<Option<Text>, TableFault>
+fn run_if_named(
+    alloc: Global,
+    number: u32,
+    value: Option<&Value>,
+) -> Result<Option<Text>, TableFault>
     ensures { Reads (Some number) (λ t. t) result
         (if_there date_in (option_map (λ v. view v.now) value.entry)) }
 {
@@ -108,7 +116,7 @@ fn named_run(alloc: Global, number: u32, value: Option<&Value>) -> Result<Option
         return Ok(None);
     };
     let date = date_at(number, value)?;
-    Ok(Some(Text::copied(alloc, date)?))
+    Ok(Some(Text::copy_of(alloc, date)?))
 }
 
 fn line_at(alloc: Global, number: u32, value: Option<&Value>) -> Result<Sequence<u8>, TableFault>
@@ -119,7 +127,7 @@ fn line_at(alloc: Global, number: u32, value: Option<&Value>) -> Result<Sequence
         return Ok(Sequence::new(alloc));
     };
     let out = text_at(number, value)?;
-    Ok(copied(alloc, last_line(out.as_bytes()))?)
+    Ok(copy_of_bytes(alloc, last_line(out.as_bytes()))?)
 }
 
 fn status_at(number: u32, value: Option<&Value>) -> Result<u8, TableFault>
@@ -139,11 +147,11 @@ fn status_at(number: u32, value: Option<&Value>) -> Result<u8, TableFault>
 fn entry_at(alloc: Global, number: u32, value: &Value) -> Result<TableEntry, TableFault>
     ensures { Reads (Some number) (λ e. e) result (entry_of (view value.now)) }
 {
-    object_at(number, value)?;
-    let task = named_task(alloc, number, value.get("task"))?;
-    let index = named_number(number, value.get("index"))?;
-    let run = named_run(alloc, number, value.get("run"))?;
-    let attempt = named_number(number, value.get("try"))?;
+    refuse_other_object(number, value)?;
+    let task = task_if_named(alloc, number, value.get("task"))?;
+    let index = number_if_named(number, value.get("index"))?;
+    let run = run_if_named(alloc, number, value.get("run"))?;
+    let attempt = number_if_named(number, value.get("try"))?;
     let status = status_at(number, value.get("status"))?;
     let line = line_at(alloc, number, value.get("out"))?;
     Ok(TableEntry {

@@ -4,15 +4,15 @@ ghost use Rattle.std.specs.BTreeMap;
 ghost use Rattle.bf_table.specs.TableIndex.{first_of_keys, keys_of, pattern_cmp, IsIndexOf};
 ghost use Rattle.bf_plan.specs.Plans.{task_of};
 ghost use Rattle.bf_moment.specs.Moment.{IsShown};
-ghost use Rattle.bf_table.specs.Tables.{answer_of, answers_for_in, dates_in, is_number_in, is_text_in, raw_in};
+ghost use Rattle.bf_table.specs.Tables.{answer_of, answers_for_in, dates_in, matches_number_in, matches_text_in, raw_in};
 
 use crate::table::{Table, TableEntry};
-use crate::table_index::{Firsts, Pattern, first_for, firsts_of};
+use crate::table_index::{Firsts, Pattern, first_for_try, firsts_of};
 use bf_failure::{Detail, DetailedRunner};
 use bf_graph::Graph;
 use bf_moment::moment_bytes;
 use bf_plan::Plan;
-use bf_try::{Done, Raw, RunnerFault, TaskRunner, Ticket, copied};
+use bf_try::{Done, Raw, RunnerFault, TaskRunner, Ticket, copy_of_bytes};
 use bf_value::{JobName, OutOfMemory, Sequence, Text};
 use jiff::Timestamp;
 use std::alloc::Global;
@@ -47,8 +47,8 @@ impl<'a> Model for TableRunner<'a> {
     ghost invariant = { λ r. IsIndexOf (shape_of r.plan.now.dag).ids r.table r.firsts };
 }
 
-fn is_text(named: &Option<Text>, text: &[u8]) -> bool
-    ensures { result ≡ is_text_in named.now text.now }
+fn matches_text(named: &Option<Text>, text: &[u8]) -> bool
+    ensures { result ≡ matches_text_in named.now text.now }
 {
     match named {
         Some(named) => named.as_str().as_bytes() == text,
@@ -56,8 +56,8 @@ fn is_text(named: &Option<Text>, text: &[u8]) -> bool
     }
 }
 
-fn is_number(named: Option<i64>, number: i64) -> bool
-    ensures { result ≡ is_number_in named number }
+fn matches_number(named: Option<i64>, number: i64) -> bool
+    ensures { result ≡ matches_number_in named number }
 {
     match named {
         Some(named) => named == number,
@@ -68,14 +68,14 @@ fn is_number(named: Option<i64>, number: i64) -> bool
 fn answers_for(id: &[u8], date: &[u8], name: JobName, entry: &TableEntry) -> bool
     ensures { result ≡ answers_for_in id.now date.now name entry.now }
 {
-    is_text(&entry.task, id)
-        && is_text(&entry.run, date)
-        && is_number(entry.index, i64::from(name.index))
-        && is_number(entry.attempt, i64::from(name.attempt))
+    matches_text(&entry.task, id)
+        && matches_text(&entry.run, date)
+        && matches_number(entry.index, i64::from(name.index))
+        && matches_number(entry.attempt, i64::from(name.attempt))
 }
 
 // A try of no task of the plan, or of no run, is looked up one entry after the other.
-fn scanned<'a>(
+fn find_by_scan<'a>(
     entries: &'a [TableEntry],
     id: &[u8],
     date: &[u8],
@@ -88,12 +88,16 @@ fn scanned<'a>(
         .find(|entry| answers_for(id, date, name, entry))
 }
 
-fn indexed<'a>(entries: &'a [TableEntry], firsts: &Firsts, asked: Pattern) -> Option<&'a TableEntry>
+fn find_by_index<'a>(
+    entries: &'a [TableEntry],
+    firsts: &Firsts,
+    asked: Pattern,
+) -> Option<&'a TableEntry>
     ensures { option_copied result
         ≡ option_and_then (slice_get entries.entry.now)
         (first_of_keys (BTreeMap.get pattern_cmp firsts.now) (keys_of asked)) }
 {
-    match first_for(firsts, asked) {
+    match first_for_try(firsts, asked) {
         Some(number) => entries.get(number),
         None => None,
     }
@@ -112,8 +116,8 @@ fn entry_in_run<'a>(
     ensures { option_copied result ≡ find (answers_for_in id.now date name) entries.entry.now }
 {
     match graph.number_of(id) {
-        Some(task) => indexed(entries, firsts, Pattern::of_try(task, date, name)),
-        None => scanned(entries, id.as_bytes(), &date, name),
+        Some(task) => find_by_index(entries, firsts, Pattern::of_try(task, date, name)),
+        None => find_by_scan(entries, id.as_bytes(), &date, name),
     }
 }
 
@@ -157,7 +161,7 @@ fn raw_of(alloc: Global, entry: Option<&TableEntry>) -> Result<Raw, OutOfMemory>
 {
     match entry {
         Some(entry) => {
-            let line = copied(alloc, entry.line.as_slice())?;
+            let line = copy_of_bytes(alloc, entry.line.as_slice())?;
             Ok(Raw::with_code(i32::from(entry.status), line))
         }
         None => Ok(Raw::with_code(0, Sequence::new(alloc))),
@@ -198,7 +202,7 @@ impl<'a> TableRunner<'a> {
         let entries = self.table.as_slice();
         match date_of(self.dates.as_slice(), name.run) {
             Some(date) => entry_in_run(entries, &self.firsts, self.plan.graph(), id, date, name),
-            None => scanned(entries, id.as_bytes(), &[], name),
+            None => find_by_scan(entries, id.as_bytes(), &[], name),
         }
     }
 

@@ -45,7 +45,7 @@ fn command(text: Text) -> [Word; COMMAND] {
 
 /// A null as the item, and a text, nothing and a list as what is pulled.
 fn given(alloc: Global) -> Result<Given, OutOfMemory> {
-    let text = Xval::Text(Text::copied(alloc, "a\"b")?);
+    let text = Xval::Text(Text::copy_of(alloc, "a\"b")?);
     let list = vec![in alloc; Xval::Int(3), Xval::Nil, Xval::Flag(true)]?;
     let list = Xval::List(Values::new(list));
     let pulled = vec![in alloc;
@@ -68,7 +68,7 @@ fn words_given(alloc: Global, given: &Given) -> Result<Vec<String>, OutOfMemory>
         map_index: -1,
         try_number: 1,
     };
-    let command = command(Text::copied(alloc, "echo \"")?);
+    let command = command(Text::copy_of(alloc, "echo \"")?);
     Ok(words(alloc, &command, &context, given)?)
 }
 

@@ -10,7 +10,7 @@ use std::alloc::Global;
 
 /// The one run of 1970-01-01T00:00:00Z, whose data interval ends where it starts.
 pub fn epoch_run(alloc: Global) -> Result<Runs, IntervalFault> {
-    Runs::at(alloc, Timestamp::UNIX_EPOCH)
+    Runs::single_at(alloc, Timestamp::UNIX_EPOCH)
 }
 
 fn daily(alloc: Global) -> Result<CronSpec, CronFault>

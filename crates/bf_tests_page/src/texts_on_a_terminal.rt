@@ -1,5 +1,5 @@
 //! Words of a shell's line, and values.
-use bf_quoted::{push_line, push_quoted, push_shown};
+use bf_quoted::{push_line, push_quoted, push_shown_value};
 use bf_value::Text;
 use std::test::Fail;
 
@@ -61,7 +61,7 @@ fn words_are_quoted(rt: HostRuntime) -> Result<(), Fail> {
 fn values_are_shown(rt: HostRuntime) -> Result<(), Fail> {
     for &(json, shown) in &VALUES {
         let mut text = String::new(rt.alloc());
-        push_shown(&mut text, json)?;
+        push_shown_value(&mut text, json)?;
         assert_eq!(rt; text.as_str(), shown);
     }
     Ok(())
@@ -71,7 +71,7 @@ fn values_are_shown(rt: HostRuntime) -> Result<(), Fail> {
 fn words_stand_on_a_line(rt: HostRuntime) -> Result<(), Fail> {
     let mut words = Vec::new(rt.alloc());
     for word in ["awk", "$2 == \"n/a\"", "", "a\nb", "-"] {
-        words.push(Text::copied(rt.alloc(), word)?)?;
+        words.push(Text::copy_of(rt.alloc(), word)?)?;
     }
     let mut text = String::new(rt.alloc());
     push_line(rt.alloc(), &mut text, words.as_slice())?;

@@ -3,7 +3,7 @@ use bf_core::Event;
 use bf_rescan::{next_moment, next_step, next_try};
 use bf_sched::Ready;
 use bf_value::OutOfMemory;
-use bf_waiting::weights;
+use bf_waiting::total_weights_of;
 use std::alloc::Global;
 use std::process::Abort;
 use std::test::Fail;
@@ -20,7 +20,7 @@ pub fn compare(rt: &impl Abort, alloc: Global, ready: &Ready<'_>) -> Result<(), 
     let core = ready.core();
     let plan = core.plan();
     let order = plan.graph().by_rank(alloc)?;
-    let weights = weights(alloc, plan)?;
+    let weights = total_weights_of(alloc, plan)?;
     assert_eq!(rt;
         told(alloc, ready.next_step())?.as_str(),
         told(alloc, next_step(core, order.as_slice()))?.as_str()

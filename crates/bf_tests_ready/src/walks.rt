@@ -19,7 +19,7 @@ const MOST_EVENTS: u32 = 4_000;
 
 fn task_name(alloc: Global, task: u32) -> Result<Xval, OutOfMemory> {
     let name = format!(in alloc; "t{task}")?;
-    Ok(Xval::Text(Text::copied(alloc, name.as_str())?))
+    Ok(Xval::Text(Text::copy_of(alloc, name.as_str())?))
 }
 
 /// Up to three names of tasks, which are items, and good for a branch where they are its downstreams.
@@ -167,7 +167,7 @@ fn drive(
 fn walk_over(rt: &impl Abort, alloc: Global, plan: &Plan, chance: &mut Chance) -> Result<(), Fail> {
     let runs = daily_runs(alloc, RUNS).ok_or("there are no such runs")?;
     let core = Core::new(alloc, plan, &runs)?;
-    let mut ready = Ready::of(alloc, core)?;
+    let mut ready = Ready::new(alloc, core)?;
     drive(rt, alloc, chance, &mut ready)
 }
 

@@ -40,7 +40,7 @@ fn is_same_cell(one: Option<&Cell>, other: Option<&Cell>) -> bool {
 
 fn are_same_cells(one: &Core<'_>, other: &Core<'_>) -> bool {
     let tasks = one.plan().dag().tasks.len() as u32;
-    (0..one.runs()).all(|run| (0..tasks).all(|task| is_same_cell(
+    (0..one.run_count()).all(|run| (0..tasks).all(|task| is_same_cell(
         one.cell(run, task),
         other.cell(run, task),
     )))

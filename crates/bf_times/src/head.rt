@@ -26,7 +26,7 @@ pub(crate) fn first_line(bytes: &[u8]) -> Option<&[u8]>
 }
 
 /// Whether a line is the same as a head up to the bracket that ends its list, and has a bracket or a comma there.
-fn is_like(line: &[u8], head: &[u8]) -> bool
+fn is_line_like(line: &[u8], head: &[u8]) -> bool
     ensures { result ≡ is_head_like head.now line.now }
 {
     let front = head.len().saturating_sub(2);
@@ -44,5 +44,5 @@ pub(crate) fn is_head(
     ensures { IfOk result (λ is. is ≡ is_head_like (head_text plan.now.dag runs.now []) line.now) }
 {
     let head = head_of(alloc, plan, runs, &[])?;
-    Ok(is_like(line, head.as_bytes()))
+    Ok(is_line_like(line, head.as_bytes()))
 }

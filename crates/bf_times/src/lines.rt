@@ -61,7 +61,7 @@ fn times_in(fields: &[Xval]) -> Option<(i64, i64, i64)>
 }
 
 /// The line of a record, where it has times.
-fn push_record(text: &mut String, fields: &[Xval]) -> Result<(), OutOfMemory>
+fn push_times_of_record(text: &mut String, fields: &[Xval]) -> Result<(), OutOfMemory>
     ensures { OnOk result (string_bytes text.new
         ≡ string_bytes text.old ++ record_times fields.now) }
 {
@@ -74,12 +74,12 @@ fn push_record(text: &mut String, fields: &[Xval]) -> Result<(), OutOfMemory>
 }
 
 /// The same of the record that a line says.
-fn push_line(alloc: Global, text: &mut String, line: &str) -> Result<(), OutOfMemory>
+fn push_times_of_line(alloc: Global, text: &mut String, line: &str) -> Result<(), OutOfMemory>
     ensures { OnOk result (string_bytes text.new
         ≡ string_bytes text.old ++ line_times line.now) }
 {
     match read_text(alloc, line, DEEPEST_RECORD)? {
-        Some(Xval::List(fields)) => push_record(text, fields.as_slice()),
+        Some(Xval::List(fields)) => push_times_of_record(text, fields.as_slice()),
         _ => Ok(()),
     }
 }
@@ -91,21 +91,25 @@ fn lines_of(alloc: Global, records: &str) -> Result<Vec<&str>, AllocError>
 }
 
 /// The same of each of these lines.
-fn push_each(alloc: Global, text: &mut String, lines: &[&str]) -> Result<(), OutOfMemory>
+fn push_times_of_lines(alloc: Global, text: &mut String, lines: &[&str]) -> Result<(), OutOfMemory>
     ensures { OnOk result (string_bytes text.new ≡ string_bytes text.old
         ++ flat_map line_times (map (λ line. line.now) lines.now)) }
 {
     for line in lines {
-        push_line(alloc, text, line)?;
+        push_times_of_line(alloc, text, line)?;
     }
     Ok(())
 }
 
 /// The same of each line of a text.
-pub(crate) fn push_lines(alloc: Global, text: &mut String, records: &str) -> Result<(), OutOfMemory>
+pub(crate) fn push_times_of_text(
+    alloc: Global,
+    text: &mut String,
+    records: &str,
+) -> Result<(), OutOfMemory>
     ensures { OnOk result (string_bytes text.new ≡ string_bytes text.old
         ++ flat_map line_times (lines_in records.now)) }
 {
     let lines = lines_of(alloc, records)?;
-    push_each(alloc, text, lines.as_slice())
+    push_times_of_lines(alloc, text, lines.as_slice())
 }

@@ -3,7 +3,7 @@ ghost use Rattle.std.specs.Prelude.{IfOk, IfErr, string_bytes};
 ghost use Rattle.bf_times.specs.Times.{AreTimesOf, IsTimesFault, IsTextOf};
 
 use crate::head::{first_line, is_head};
-use crate::lines::push_lines;
+use crate::lines::push_times_of_text;
 use bf_interval::Runs;
 use bf_journal::{JournalFault, read_journal};
 use bf_plan::Plan;
@@ -11,13 +11,13 @@ use bf_value::OutOfMemory;
 use std::alloc::Global;
 
 /// The times that the whole lines behind a head tell.
-fn text_of(alloc: Global, records: &[u8]) -> Result<String, OutOfMemory>
+fn text_of_times(alloc: Global, records: &[u8]) -> Result<String, OutOfMemory>
     ensures { IfOk result (λ text. IsTextOf records.now (string_bytes text)) }
 {
     let mut text = String::new(alloc);
     text.push_str("@times 1\n")?;
     if let Ok(records) = std::str::from_utf8(records) {
-        push_lines(alloc, &mut text, records)?;
+        push_times_of_text(alloc, &mut text, records)?;
     }
     Ok(text)
 }
@@ -41,5 +41,5 @@ pub fn times_of(
     }
     let found = read_journal(alloc, plan, runs, head, bytes)?;
     let whole = found.whole.max(head.len());
-    Ok(text_of(alloc, &bytes[head.len()..whole])?)
+    Ok(text_of_times(alloc, &bytes[head.len()..whole])?)
 }

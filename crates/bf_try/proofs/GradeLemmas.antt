@@ -17,7 +17,7 @@ use Rattle.bf_xcom.specs.declared.values.Outcome.{Outcome}
 use Rattle.bf_try.specs.declared.answers.Exit.{Exit}
 use Rattle.bf_try.specs.declared.answers.Line.{Line}
 use Rattle.bf_try.specs.declared.answers.Raw.{Raw}
-use Rattle.bf_try.specs.Grades.{HasSoundValue, fits_in, grade_of, grade_answer, grade_line_of, grade_status, grade_value, is_status, is_value_of_lines_in, may_push_in}
+use Rattle.bf_try.specs.Grades.{HasSoundValue, fits_in, grade_of, grade_answer, grade_line_of, grade_status, grade_value, is_status, is_readable_from_line_in, may_push_in}
 
 int_some : (o : Option ℤ) (p : Plain) → option_map int o ≡ Some p → plain_depth p ≤ 0
 int_some None p e = cc
@@ -70,10 +70,10 @@ not_nil (suc n) (array ds) other e = none_in (plains_in n ds) e
     none_in (Some ps) h = cc
 not_nil n (object ms) other e = cc
 
-read_values : (line : List ℕ) (d : Data) → d ≢ null → is_value_of_lines_in (Some (value_or_text line (plain_in deepest d))) ≡ true
+read_values : (line : List ℕ) (d : Data) → d ≢ null → is_readable_from_line_in (Some (value_or_text line (plain_in deepest d))) ≡ true
 read_values line d other = by (plain_in deepest d) refl
   where
-    by : (o : Option Plain) → plain_in deepest d ≡ o → is_value_of_lines_in (Some (value_or_text line o)) ≡ true
+    by : (o : Option Plain) → plain_in deepest d ≡ o → is_readable_from_line_in (Some (value_or_text line o)) ≡ true
     by None e = refl
     by (Some (flag b)) e = refl
     by (Some (int z)) e = refl
@@ -81,7 +81,7 @@ read_values line d other = by (plain_in deepest d) refl
     by (Some (list ps)) e = let low : plain_depth (list ps) ≤ deepest = depth_read deepest d (list ps) e in le-leb _ _ low
     by (Some nil) e = absurd (not_nil deepest d other e)
 
-pushed_values : (line : List ℕ) (o : Option Data) → is_value_of_lines_in (pushed_of line o) ≡ true
+pushed_values : (line : List ℕ) (o : Option Data) → is_readable_from_line_in (pushed_of line o) ≡ true
 pushed_values line None = refl
 pushed_values line (Some null) = refl
 pushed_values line (Some (boolean b)) = read_values line (boolean b) (λ e. cc)
@@ -91,11 +91,11 @@ pushed_values line (Some (array ds)) = read_values line (array ds) (λ e. cc)
 pushed_values line (Some (object ms)) = read_values line (object ms) (λ e. cc)
 
 -- a line pushes nothing or a value of lines
-lines_values : (line : List ℕ) → is_value_of_lines_in (value_of_line line) ≡ true
+lines_values : (line : List ℕ) → is_readable_from_line_in (value_of_line line) ≡ true
 lines_values [] = refl
 lines_values (b ∷ bs) = pushed_values (b ∷ bs) (read (b ∷ bs))
 
-value_fits : (dag : Dag) (t : ℕ) (v : Option Xval) → is_value_of_lines_in v ≡ true → fits_in dag t (grade_value dag t v) ≡ true
+value_fits : (dag : Dag) (t : ℕ) (v : Option Xval) → is_readable_from_line_in v ≡ true → fits_in dag t (grade_value dag t v) ≡ true
 unfolding fits_in
 value_fits dag t v ok = by (may_push_in dag t v) refl
   where
@@ -132,7 +132,7 @@ grade_fits dag t raw = answer_fits dag t raw.exit raw.line
 
 -- ---- and what fits is a grade
 
-value_fact : (x : Xval) → is_value_of_lines_in (Some x) ≡ true → (x ≢ Nil) × (plain_depth (plain_of x) ≤ deepest)
+value_fact : (x : Xval) → is_readable_from_line_in (Some x) ≡ true → (x ≢ Nil) × (plain_depth (plain_of x) ≤ deepest)
 value_fact (Flag b) e = (λ h. cc, omega arith)
 value_fact (Int z) e = (λ h. cc, omega arith)
 value_fact (Text s) e = (λ h. cc, omega arith)
@@ -140,15 +140,15 @@ value_fact (ListOf ps) e = (λ h. cc, leb-true _ _ e)
 value_fact Nil e = cc
 
 -- the text of a value that lines may have is a line with this value
-pub line_reads_back : (x : Xval) (line : List ℕ) → (x ≢ Nil → plain_depth (plain_of x) ≤ deepest → value_of_line line ≡ Some x) → is_value_of_lines_in (Some x) ≡ true → value_of_line line ≡ Some x
+pub line_reads_back : (x : Xval) (line : List ℕ) → (x ≢ Nil → plain_depth (plain_of x) ≤ deepest → value_of_line line ≡ Some x) → is_readable_from_line_in (Some x) ≡ true → value_of_line line ≡ Some x
 line_reads_back x line back e = let fact = value_fact x e in back fact.0 fact.1
 
-success_parts : (dag : Dag) (t : ℕ) (v : Option Xval) → fits_in dag t (Outcome.Success v) ≡ true → (is_value_of_lines_in v ≡ true) × (may_push_in dag t v ≡ true)
+success_parts : (dag : Dag) (t : ℕ) (v : Option Xval) → fits_in dag t (Outcome.Success v) ≡ true → (is_readable_from_line_in v ≡ true) × (may_push_in dag t v ≡ true)
 unfolding fits_in
 success_parts dag t v e = and_parts _ _ e
 
 -- a line that reads as what a task may push is graded as a success that pushes it
-pub success_graded : (dag : Dag) (t : ℕ) (v : Option Xval) (line : List ℕ) → IsUtf8 line → (is_value_of_lines_in v ≡ true → value_of_line line ≡ v) → fits_in dag t (Outcome.Success v) ≡ true
+pub success_graded : (dag : Dag) (t : ℕ) (v : Option Xval) (line : List ℕ) → IsUtf8 line → (is_readable_from_line_in v ≡ true → value_of_line line ≡ v) → fits_in dag t (Outcome.Success v) ≡ true
     → grade_of dag t (record { exit = Exit.Code (pos 0); line = Line.Bytes line }) ≡ Outcome.Success v
 unfolding grade_of
 success_graded dag t v line utf8 reads e =
@@ -156,7 +156,7 @@ success_graded dag t v line utf8 reads e =
     rw (is_utf8-from_IsUtf8 line utf8) (ap (grade_value dag t) (reads parts.0) ∙ ap (λ b. if b then Outcome.Success v else Outcome.Failed) parts.1)
 
 -- the same of an answer and an outcome that are equal to these
-pub success_answered : (o : Outcome) (raw : Raw) (v : Option Xval) (line : List ℕ) → o ≡ Outcome.Success v → raw ≡ record { exit = Exit.Code (pos 0); line = Line.Bytes line } → IsUtf8 line → (is_value_of_lines_in v ≡ true → value_of_line line ≡ v)
+pub success_answered : (o : Outcome) (raw : Raw) (v : Option Xval) (line : List ℕ) → o ≡ Outcome.Success v → raw ≡ record { exit = Exit.Code (pos 0); line = Line.Bytes line } → IsUtf8 line → (is_readable_from_line_in v ≡ true → value_of_line line ≡ v)
     → (dag : Dag) (t : ℕ) → fits_in dag t o ≡ true → grade_of dag t raw ≡ o
 success_answered o raw v line is answer utf8 reads dag t e =
     ap (grade_of dag t) answer ∙ success_graded dag t v line utf8 reads (subst (λ (x : Outcome). fits_in dag t x ≡ true) is e) ∙ sym is

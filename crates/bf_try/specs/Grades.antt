@@ -24,9 +24,9 @@ longest_text = 65_536
 abbrev pub most_items : ℕ
 most_items = 1_024
 
-abbrev pub is_short_in : Option Xval → Bool
-is_short_in None = true
-is_short_in (Some value) = nat_le (length (json_of value)) longest_text
+abbrev pub is_short_value_in : Option Xval → Bool
+is_short_value_in None = true
+is_short_value_in (Some value) = nat_le (length (json_of value)) longest_text
 
 abbrev pub is_list_of_items_in : Option Xval → Bool
 is_list_of_items_in (Some (ListOf values)) = nat_le (length (xvals_of values)) most_items
@@ -45,7 +45,7 @@ gives_items_in dag task =
 -- its text is short; of a branch it names direct downstreams; of a task that gives items it is a list of few
 abbrev pub may_push_in : Dag → ℕ → Option Xval → Bool
 may_push_in dag task value =
-    is_short_in value
+    is_short_value_in value
     && ((not (is_branch_in (task_of dag task)) || names_downstreams_in (shape_of dag) task value)
     && (not (gives_items_in dag task) || is_list_of_items_in value))
 
@@ -87,13 +87,13 @@ HasSoundValue (Outcome.Success (Some value)) = IsSound (plain_of value)
 HasSoundValue _ = Unit {0}
 
 -- a line may have this value: never null, with lists that are not nested too deep
-abbrev pub is_value_of_lines_in : Option Xval → Bool
-is_value_of_lines_in (Some Nil) = false
-is_value_of_lines_in (Some (ListOf values)) = nat_le (plains_depth values) deepest
-is_value_of_lines_in _ = true
+abbrev pub is_readable_from_line_in : Option Xval → Bool
+is_readable_from_line_in (Some Nil) = false
+is_readable_from_line_in (Some (ListOf values)) = nat_le (plains_depth values) deepest
+is_readable_from_line_in _ = true
 
 unfoldable pub fits_in : Dag → ℕ → Outcome → Bool
-fits_in dag task (Outcome.Success value) = is_value_of_lines_in value && may_push_in dag task value
+fits_in dag task (Outcome.Success value) = is_readable_from_line_in value && may_push_in dag task value
 fits_in dag task Outcome.Failed = true
 fits_in dag task Outcome.Skipped = true
 

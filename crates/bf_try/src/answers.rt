@@ -30,7 +30,7 @@ pub struct Raw {
 }
 
 /// Bytes, copied.
-pub fn copied(alloc: Global, bytes: &[u8]) -> Result<Sequence<u8>, OutOfMemory>
+pub fn copy_of_bytes(alloc: Global, bytes: &[u8]) -> Result<Sequence<u8>, OutOfMemory>
     ensures { IfOk result (λ copy. copy ≡ bytes.now) }
 {
     Ok(Sequence::from_vec(bytes.to_vec(alloc)?))
@@ -41,7 +41,7 @@ impl Line {
         ensures { IfOk result (λ line. line ≡ self.now) }
     {
         match self {
-            Line::Bytes(bytes) => Ok(Line::Bytes(copied(alloc, bytes.as_slice())?)),
+            Line::Bytes(bytes) => Ok(Line::Bytes(copy_of_bytes(alloc, bytes.as_slice())?)),
             Line::TooMuch => Ok(Line::TooMuch),
             Line::ReadFault => Ok(Line::ReadFault),
         }

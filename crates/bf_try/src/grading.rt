@@ -7,9 +7,9 @@ ghost use Rattle.bf_try.specs.declared.answers.Raw.{Raw};
 ghost use Rattle.std.specs.List.{list_any};
 ghost use Rattle.bf_rule.specs.Branches.{names_downstreams_in};
 ghost use Rattle.bf_plan.specs.Plans.{task_of, shape_of, is_branch_in};
-ghost use Rattle.bf_try.specs.Grades.{grade_of, grade_line_of, fits_in, gives_items_in, GradesTo, HasSoundValue, is_list_of_items_in, is_short_in, is_source, is_value_of_lines_in, may_push_in};
+ghost use Rattle.bf_try.specs.Grades.{grade_of, grade_line_of, fits_in, gives_items_in, GradesTo, HasSoundValue, is_list_of_items_in, is_short_value_in, is_source, is_readable_from_line_in, may_push_in};
 
-use crate::answers::{Exit, Line, Raw, copied};
+use crate::answers::{Exit, Line, Raw, copy_of_bytes};
 use bf_plan::{Dag, Plan};
 use bf_rule::names_downstreams;
 use bf_value::{DEEPEST, LineFault, OutOfMemory, Sequence, Xval, read_line, text_of};
@@ -25,8 +25,8 @@ pub const MOST_ITEMS: usize = 1_024;
 /// The status by which a try says that it is skipped. Airflow's `BashOperator` has the same.
 const SKIP_STATUS: i32 = 99;
 
-fn is_short(value: &Option<Xval>) -> bool
-    ensures { result ≡ is_short_in value.now }
+fn is_short_value(value: &Option<Xval>) -> bool
+    ensures { result ≡ is_short_value_in value.now }
 {
     match value {
         Some(value) => value.has_text_within(LONGEST_VALUE),
@@ -83,7 +83,7 @@ fn gives_items(plan: &Plan, task: u32) -> bool
     plan.dag().task(task).expand.is_none() && is_source_of_some(plan, task)
 }
 
-fn names_followed(plan: &Plan, task: u32, value: &Option<Xval>) -> bool
+fn names_downstreams_if_branch(plan: &Plan, task: u32, value: &Option<Xval>) -> bool
     requires { task < length plan.now.dag.tasks }
     ensures { result ≡ (not (is_branch_in (task_of plan.now.dag task))
         || names_downstreams_in (shape_of plan.now.dag) task value.now) }
@@ -95,13 +95,13 @@ fn may_push(plan: &Plan, task: u32, value: &Option<Xval>) -> bool
     requires { task < length plan.now.dag.tasks }
     ensures { result ≡ may_push_in plan.now.dag task value.now }
 {
-    is_short(value)
-        && (names_followed(plan, task, value)
+    is_short_value(value)
+        && (names_downstreams_if_branch(plan, task, value)
             && (!gives_items(plan, task) || is_list_of_items(value)))
 }
 
-fn is_value_of_lines(value: &Option<Xval>) -> bool
-    ensures { result ≡ is_value_of_lines_in value.now }
+fn is_readable_from_line(value: &Option<Xval>) -> bool
+    ensures { result ≡ is_readable_from_line_in value.now }
 {
     match value {
         Some(Xval::Nil) => false,
@@ -117,7 +117,7 @@ pub fn fits(plan: &Plan, task: u32, outcome: &Outcome) -> bool
     ensures { result ≡ fits_in plan.now.dag task outcome.now }
 {
     match outcome {
-        Outcome::Success(value) => is_value_of_lines(value) && may_push(plan, task, value),
+        Outcome::Success(value) => is_readable_from_line(value) && may_push(plan, task, value),
         Outcome::Failed | Outcome::Skipped => true,
     }
 }
@@ -175,16 +175,16 @@ pub fn each_fit_is_a_grade()
 {}
 
 /// The last line by which a program pushes this.
-fn line_for(alloc: Global, pushed: &Option<Xval>) -> Result<Sequence<u8>, OutOfMemory>
+fn line_that_pushes(alloc: Global, pushed: &Option<Xval>) -> Result<Sequence<u8>, OutOfMemory>
     ensures text { IfOk result (λ line. IsUtf8 line) }
     ensures reads_back { IfOk result
-        (λ line. is_value_of_lines_in pushed.now ≡ true → value_of_line line ≡ pushed.now) }
+        (λ line. is_readable_from_line_in pushed.now ≡ true → value_of_line line ≡ pushed.now) }
 {
     let Some(value) = pushed else {
         return Ok(Sequence::new(alloc));
     };
     let text = text_of(alloc, value)?;
-    copied(alloc, text.as_str().as_bytes())
+    copy_of_bytes(alloc, text.as_str().as_bytes())
 }
 
 /// An answer whose grade is this outcome, for a try of each task that the outcome fits: so what fits is just what `grade`
@@ -193,7 +193,7 @@ pub fn answer_for(alloc: Global, outcome: &Outcome) -> Result<Raw, OutOfMemory>
     ensures { IfOk result (λ raw. GradesTo raw outcome.now) }
 {
     match outcome {
-        Outcome::Success(pushed) => Ok(Raw::with_code(0, line_for(alloc, pushed)?)),
+        Outcome::Success(pushed) => Ok(Raw::with_code(0, line_that_pushes(alloc, pushed)?)),
         Outcome::Failed => Ok(Raw::with_code(1, Sequence::new(alloc))),
         Outcome::Skipped => Ok(Raw::with_code(SKIP_STATUS, Sequence::new(alloc))),
     }

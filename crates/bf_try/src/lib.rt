@@ -11,7 +11,7 @@ mod ledger;
 mod runner;
 mod tickets;
 
-pub use answers::{Exit, Line, Raw, copied};
+pub use answers::{Exit, Line, Raw, copy_of_bytes};
 pub use bf_xcom::Outcome;
 pub use grading::{
     LONGEST_VALUE, MOST_ITEMS, answer_for, each_fit_is_a_grade, fits, grade, grades_fit,

@@ -12,7 +12,7 @@ use Rattle.bf_plan.specs.declared.plan.Task.{Task}
 use Rattle.bf_report.specs.declared.report.TaskReport.{TaskReport}
 use Rattle.bf_report.specs.declared.report.RunReport.{RunReport}
 use Rattle.bf_report.specs.declared.report.Report.{Report}
-use Rattle.bf_marks.specs.RowOrder.{is_let_go_in, is_source_in, order_from, order_of, tasks_where}
+use Rattle.bf_marks.specs.RowOrder.{is_let_go_in, has_no_upstreams_in, order_from, order_of, tasks_where}
 use Rattle.bf_command_line.specs.declared.forms.TaskAsked.{TaskAsked}
 use Rattle.bf_command_fault.specs.declared.fault.CommandFault.{CommandFault}
 use Rattle.bf_command_fault.specs.declared.fault.CommandFault.TheVariants.{UnknownIndex}
@@ -33,7 +33,7 @@ pub order_fits : (dag : Dag) → IsSound dag → length (order_of dag) ≤ 20_00
 unfolding order_of
 order_fits dag sound =
     let few = sound.few_tasks in
-    let short = order_short dag (length dag.tasks) (replicate (length dag.tasks) false) (tasks_where dag (is_source_in dag)) in
+    let short = order_short dag (length dag.tasks) (replicate (length dag.tasks) false) (tasks_where dag (has_no_upstreams_in dag)) in
     omega arith
 
 -- a run that was found

@@ -10,11 +10,11 @@ use bf_answers::write_answers;
 use bf_command_fault::{CommandFault, Status};
 use bf_device::Write;
 use bf_disk::Source;
-use bf_input::report_in;
+use bf_input::read_report_file;
 use std::alloc::Global;
 
 /// Reads a report, and writes the table of answers over which a dry backfill has it again. No graph is asked for.
-pub fn answers_answered<S: Source, W: Write>(
+pub fn answer_answers<S: Source, W: Write>(
     alloc: Global,
     path: String,
     files: &mut S,
@@ -30,7 +30,7 @@ pub fn answers_answered<S: Source, W: Write>(
         × IsTableAnswer (S.file files.old) (string_bytes path) text status)
         (W.written out.old) (W.written out.new)) }
 {
-    let report = report_in(alloc, path, files)?;
+    let report = read_report_file(alloc, path, files)?;
     write_answers(alloc, &report, out)?;
     Ok(Status::Success)
 }

@@ -15,7 +15,7 @@ pub(crate) struct Bounds {
     pub(crate) to: Option<Timestamp>,
 }
 
-fn moment_if(text: &Option<String>) -> Result<Option<Timestamp>, CommandFault>
+fn optional_moment(text: &Option<String>) -> Result<Option<Timestamp>, CommandFault>
     ensures means { IfOk result (MeansIfGiven text.now) }
     ensures bad { IfErr result (λ f. (f ≡ CommandFault.BadMoment) × IsNoMomentIfGiven text.now) }
 {
@@ -34,8 +34,8 @@ impl Bounds {
         ensures means { IfOk result (MeansBounds asked.now) }
         ensures bad { IfErr result (λ f. (f ≡ CommandFault.BadMoment) × HasNoBound asked.now) }
     {
-        let from = moment_if(&asked.from)?;
-        let to = moment_if(&asked.to)?;
+        let from = optional_moment(&asked.from)?;
+        let to = optional_moment(&asked.to)?;
         Ok(Bounds { from, to })
     }
 

@@ -9,15 +9,15 @@ ghost use Rattle.bf_views.specs.ExplainFaults.{IsExplainFault, IsFaultOfAsked};
 ghost use Rattle.bf_views.specs.Explanations.{IsExplainAnswer, IsExplanation, paths_asked};
 ghost use Rattle.bf_views.specs.Matching.{is_of_graph};
 
-use crate::matching::refuse_other;
-use crate::planned::plan_asked;
+use crate::matching::refuse_other_graph;
+use crate::planned::read_plan;
 use bf_command_fault::{CommandFault, Status};
 use bf_command_line::{ExplainAsked, TaskAsked};
 use bf_dependents::ClearFault;
 use bf_device::{Write, send};
 use bf_disk::Source;
 use bf_explain::{Paths, explain_run, explain_task, has_index};
-use bf_input::{moment_of, report_in};
+use bf_input::{moment_of, read_report_file};
 use bf_marks::tasks_in_order;
 use bf_plan::Plan;
 use bf_report::{Report, RunReport};
@@ -29,7 +29,7 @@ fn text_if_named(alloc: Global, path: &Option<String>) -> Result<Option<Text>, O
     ensures { IfOk result (λ text. text ≡ option_map string_bytes path.now) }
 {
     match path {
-        Some(path) => Ok(Some(Text::copied(alloc, path.as_str())?)),
+        Some(path) => Ok(Some(Text::copy_of(alloc, path.as_str())?)),
         None => Ok(None),
     }
 }
@@ -38,20 +38,20 @@ fn paths_of(alloc: Global, asked: &ExplainAsked) -> Result<Paths, OutOfMemory>
     ensures { IfOk result (λ paths. paths ≡ paths_asked asked.now) }
 {
     Ok(Paths {
-        graph: Text::copied(alloc, asked.graph.graph.as_str())?,
-        report: Text::copied(alloc, asked.report.as_str())?,
+        graph: Text::copy_of(alloc, asked.graph.graph.as_str())?,
+        report: Text::copy_of(alloc, asked.report.as_str())?,
         zone_file: text_if_named(alloc, &asked.graph.zone_file)?,
     })
 }
 
-fn task_of(plan: &Plan, task: &TaskAsked) -> Option<u32>
+fn task_number_of(plan: &Plan, task: &TaskAsked) -> Option<u32>
     ensures { result ≡ task_number plan.now.dag task.now }
 {
     plan.graph().number_of(task.id.as_str())
 }
 
 /// The number of the run that starts at a moment.
-fn run_at(report: &Report, start: Timestamp) -> Option<usize>
+fn run_number_at(report: &Report, start: Timestamp) -> Option<usize>
     ensures { result ≡ run_number report.now start.nanosecond }
 {
     report
@@ -62,7 +62,7 @@ fn run_at(report: &Report, start: Timestamp) -> Option<usize>
 }
 
 /// The text on a run.
-fn run_explained(
+fn explain_run_at(
     alloc: Global,
     paths: &Paths,
     plan: &Plan,
@@ -74,17 +74,17 @@ fn run_explained(
         start.nanosecond None (string_bytes text)) }
     ensures fault { IfErr result (IsFaultOfAsked plan.now.dag report.now start.nanosecond None) }
 {
-    let Some(run) = run_at(report, start) else {
+    let Some(run) = run_number_at(report, start) else {
         return Err(CommandFault::Clear(ClearFault::UnknownRun));
     };
-    refuse_other(alloc, plan.dag(), report)?;
+    refuse_other_graph(alloc, plan.dag(), report)?;
     let order = tasks_in_order(alloc, plan.dag())?;
     let told_run = &report.runs.as_slice()[run];
     Ok(explain_run(alloc, plan, told_run, order.as_slice())?)
 }
 
 /// The text on a task in a run.
-fn task_explained(
+fn explain_task_at(
     alloc: Global,
     paths: &Paths,
     plan: &Plan,
@@ -98,13 +98,13 @@ fn task_explained(
     ensures fault { IfErr result (IsFaultOfAsked plan.now.dag report.now start.nanosecond
         (Some asked.now)) }
 {
-    let Some(task) = task_of(plan, asked) else {
+    let Some(task) = task_number_of(plan, asked) else {
         return Err(CommandFault::Clear(ClearFault::UnknownTask));
     };
-    let Some(run) = run_at(report, start) else {
+    let Some(run) = run_number_at(report, start) else {
         return Err(CommandFault::Clear(ClearFault::UnknownRun));
     };
-    refuse_other(alloc, plan.dag(), report)?;
+    refuse_other_graph(alloc, plan.dag(), report)?;
     let told_run = &report.runs.as_slice()[run];
     if !has_index(&told_run.tasks.as_slice()[task as usize], asked.index) {
         return Err(CommandFault::UnknownIndex);
@@ -115,7 +115,7 @@ fn task_explained(
     )?)
 }
 
-fn explained(
+fn explain_run_or_task(
     alloc: Global,
     paths: &Paths,
     plan: &Plan,
@@ -130,14 +130,14 @@ fn explained(
         task.now) }
 {
     match task {
-        Some(task) => task_explained(alloc, paths, plan, report, start, task),
-        None => run_explained(alloc, paths, plan, report, start),
+        Some(task) => explain_task_at(alloc, paths, plan, report, start, task),
+        None => explain_run_at(alloc, paths, plan, report, start),
     }
 }
 
 /// Looks at the moment of the run first; reads the graph file, the zone file where one is named, and checks the graph; then reads the
 /// report, looks for what is asked about, and writes the text. The report may be one of `single`, and of any range.
-pub fn explain_answered<S: Source, W: Write>(
+pub fn answer_explain<S: Source, W: Write>(
     alloc: Global,
     asked: ExplainAsked,
     files: &mut S,
@@ -154,9 +154,9 @@ pub fn explain_answered<S: Source, W: Write>(
 {
     let start = moment_of(asked.run.as_str())?;
     let paths = paths_of(alloc, &asked)?;
-    let planned = plan_asked(alloc, asked.graph, files)?;
-    let report = report_in(alloc, asked.report, files)?;
-    let text = explained(alloc, &paths, &planned.plan, &report, start, &asked.task)?;
+    let planned = read_plan(alloc, asked.graph, files)?;
+    let report = read_report_file(alloc, asked.report, files)?;
+    let text = explain_run_or_task(alloc, &paths, &planned.plan, &report, start, &asked.task)?;
     send(out, text.as_bytes())?;
     Ok(Status::Success)
 }

@@ -8,12 +8,12 @@ ghost use Rattle.bf_views.specs.Json.{IsJsonAnswer, IsLoneFault};
 use bf_command_fault::{CommandFault, Status};
 use bf_device::Write;
 use bf_disk::Source;
-use bf_input::report_in;
+use bf_input::read_report_file;
 use bf_show::write_json_lines;
 use std::alloc::Global;
 
 /// Reads a report, and writes a line for each task instance that it tells of. No graph is asked for.
-pub fn json_answered<S: Source, W: Write>(
+pub fn answer_show_json<S: Source, W: Write>(
     alloc: Global,
     path: String,
     files: &mut S,
@@ -29,7 +29,7 @@ pub fn json_answered<S: Source, W: Write>(
         × IsJsonAnswer (S.file files.old) (string_bytes path) text status)
         (W.written out.old) (W.written out.new)) }
 {
-    let report = report_in(alloc, path, files)?;
+    let report = read_report_file(alloc, path, files)?;
     write_json_lines(alloc, &report, out)?;
     Ok(Status::Success)
 }

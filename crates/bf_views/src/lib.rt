@@ -16,9 +16,9 @@ mod report;
 mod show;
 mod times;
 
-pub use answers::answers_answered;
+pub use answers::answer_answers;
 pub use canvas::Canvas;
-pub use explain::explain_answered;
-pub use json::json_answered;
-pub use page::page_answered;
-pub use show::show_answered;
+pub use explain::answer_explain;
+pub use json::answer_show_json;
+pub use page::answer_page;
+pub use show::answer_show;

@@ -24,7 +24,11 @@ pub(crate) fn intervals_of(alloc: Global, runs: &[RunReport]) -> Result<Vec<Inte
 }
 
 /// Refuses a report that isn't one of a graph. Its data intervals may be any.
-pub(crate) fn refuse_other(alloc: Global, dag: &Dag, report: &Report) -> Result<(), CommandFault>
+pub(crate) fn refuse_other_graph(
+    alloc: Global,
+    dag: &Dag,
+    report: &Report,
+) -> Result<(), CommandFault>
     ensures ok { OnOk result (is_of_graph dag.now report.now ≡ true) }
     ensures err { IfErr result (IsRefusedBy (is_of_graph dag.now report.now)) }
 {

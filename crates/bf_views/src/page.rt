@@ -9,16 +9,16 @@ ghost use Rattle.bf_views.specs.PageFaults.{IsPageFault};
 ghost use Rattle.bf_views.specs.Pages.{IsPage, IsPageAnswer, report_shown, words_asked};
 ghost use Rattle.bf_views.specs.Writing.{IsWritingFault};
 
-use crate::matching::refuse_other;
-use crate::planned::{Planned, plan_asked};
+use crate::matching::refuse_other_graph;
+use crate::planned::{Planned, read_plan};
 use crate::report::report_bytes;
-use crate::times::times_asked;
+use crate::times::read_times;
 use bf_cells::cells_of;
 use bf_command_fault::{CommandFault, Status};
 use bf_command_line::PageAsked;
 use bf_device::Write;
 use bf_disk::Source;
-use bf_input::report_in;
+use bf_input::read_report_file;
 use bf_page::{PageTexts, can_be_counted, write_page};
 use bf_report::Report;
 use bf_value::{OutOfMemory, Text};
@@ -54,11 +54,11 @@ impl Model for Words {
     } };
 }
 
-fn text_if_named(alloc: Global, path: &Option<String>) -> Result<Text, OutOfMemory>
+fn text_or_empty(alloc: Global, path: &Option<String>) -> Result<Text, OutOfMemory>
     ensures { IfOk result (λ text. text ≡ unwrap_or (option_map string_bytes path.now) []) }
 {
     match path {
-        Some(path) => Text::copied(alloc, path.as_str()),
+        Some(path) => Text::copy_of(alloc, path.as_str()),
         None => Ok(Text::new(String::new(alloc))),
     }
 }
@@ -68,15 +68,15 @@ impl Words {
         ensures { IfOk result (λ words. words ≡ words_asked asked.now) }
     {
         Ok(Words {
-            graph: Text::copied(alloc, asked.graph.graph.as_str())?,
-            report: Text::copied(alloc, asked.report.as_str())?,
-            zone_file: text_if_named(alloc, &asked.graph.zone_file)?,
+            graph: Text::copy_of(alloc, asked.graph.graph.as_str())?,
+            report: Text::copy_of(alloc, asked.report.as_str())?,
+            zone_file: text_or_empty(alloc, &asked.graph.zone_file)?,
             states_only: asked.states_only,
         })
     }
 
     /// The bytes of a report as they stand on the page.
-    fn shown<'a>(&self, report: &'a [u8]) -> &'a [u8]
+    fn report_as_shown<'a>(&self, report: &'a [u8]) -> &'a [u8]
         ensures { result.now ≡ report_shown self.now.states_only report.entry.now }
     {
         if self.states_only || report.len() > LONGEST_REPORT {
@@ -88,7 +88,7 @@ impl Words {
 }
 
 /// Writes the page of a plan's graph file and of a report of it, with these times.
-fn write_shown<W: Write>(
+fn write_report_page<W: Write>(
     alloc: Global,
     words: &Words,
     planned: &Planned,
@@ -115,7 +115,7 @@ fn write_shown<W: Write>(
         zone_path: words.zone_file.as_str(),
         cells: cells.as_str(),
         graph: &planned.graph,
-        report: words.shown(&bytes),
+        report: words.report_as_shown(&bytes),
         times,
     };
     if !can_be_counted(&texts) {
@@ -127,7 +127,7 @@ fn write_shown<W: Write>(
 
 /// Reads the graph file, the zone file where one is named, and checks the graph; then reads the report, and the journal where one is
 /// named, and writes the page. The report may be one of `single`, and of any range.
-pub fn page_answered<S: Source, W: Write>(
+pub fn answer_page<S: Source, W: Write>(
     alloc: Global,
     asked: PageAsked,
     files: &mut S,
@@ -143,10 +143,10 @@ pub fn page_answered<S: Source, W: Write>(
         (W.written out.old) (W.written out.new)) }
 {
     let words = Words::of(alloc, &asked)?;
-    let planned = plan_asked(alloc, asked.graph, files)?;
-    let report = report_in(alloc, asked.report, files)?;
-    refuse_other(alloc, planned.plan.dag(), &report)?;
-    let times = times_asked(alloc, asked.journal, &planned.plan, &report, files)?;
-    write_shown(alloc, &words, &planned, &report, times.as_str(), out)?;
+    let planned = read_plan(alloc, asked.graph, files)?;
+    let report = read_report_file(alloc, asked.report, files)?;
+    refuse_other_graph(alloc, planned.plan.dag(), &report)?;
+    let times = read_times(alloc, asked.journal, &planned.plan, &report, files)?;
+    write_report_page(alloc, &words, &planned, &report, times.as_str(), out)?;
     Ok(Status::Success)
 }

@@ -7,7 +7,7 @@ ghost use Rattle.bf_views.specs.Planned.{IsPlanned, IsPlanningFault};
 use bf_command_fault::CommandFault;
 use bf_command_line::GraphAsked;
 use bf_disk::Source;
-use bf_input::graph_files;
+use bf_input::read_graph_files;
 use bf_plan::Plan;
 use bf_planning::timed_plan_in;
 use std::alloc::Global;
@@ -20,7 +20,7 @@ pub(crate) struct Planned {
 }
 
 /// Reads the graph file, and the zone file where one is named, and then checks the graph.
-pub(crate) fn plan_asked<S: Source>(
+pub(crate) fn read_plan<S: Source>(
     alloc: Global,
     asked: GraphAsked,
     files: &mut S,
@@ -30,7 +30,7 @@ pub(crate) fn plan_asked<S: Source>(
     ensures fault { IfErr result (IsPlanningFault (S.file files.old) asked) }
     ensures stays { (p : List ℕ) → S.file files.new p ≡ S.file files.old p }
 {
-    let files = graph_files(alloc, asked, files)?;
+    let files = read_graph_files(alloc, asked, files)?;
     let timed = timed_plan_in(alloc, &files.graph, files.zone_file())?;
     Ok(Planned {
         graph: files.graph,

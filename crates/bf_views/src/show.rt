@@ -10,14 +10,14 @@ ghost use Rattle.bf_views.specs.Writing.{IsWritingFault};
 
 use crate::bounds::Bounds;
 use crate::canvas::Canvas;
-use crate::matching::refuse_other;
-use crate::planned::plan_asked;
+use crate::matching::refuse_other_graph;
+use crate::planned::read_plan;
 use bf_command_fault::{CommandFault, Status};
 use bf_command_line::{Color, ShowAsked};
 use bf_device::Write;
 use bf_disk::Source;
 use bf_grid::write_grid;
-use bf_input::report_in;
+use bf_input::read_report_file;
 use bf_marks::View;
 use bf_plan::Plan;
 use bf_report::Report;
@@ -66,7 +66,7 @@ fn write_viewed<W: Write>(
 
 /// Looks at the moments first; reads the graph file, the zone file where one is named, and checks the graph; then reads the report, and
 /// writes the grid. The report may be one of `single`, and of any range. What the line doesn't say of width and colours the canvas has.
-pub fn show_answered<S: Source, W: Write>(
+pub fn answer_show<S: Source, W: Write>(
     alloc: Global,
     asked: ShowAsked,
     canvas: Canvas,
@@ -84,10 +84,10 @@ pub fn show_answered<S: Source, W: Write>(
 {
     let bounds = Bounds::of(&asked)?;
     let view = view_of(&asked, &bounds, canvas);
-    let planned = plan_asked(alloc, asked.graph, files)?;
+    let planned = read_plan(alloc, asked.graph, files)?;
     bounds.refuse_reversed()?;
-    let report = report_in(alloc, asked.report, files)?;
-    refuse_other(alloc, planned.plan.dag(), &report)?;
+    let report = read_report_file(alloc, asked.report, files)?;
+    refuse_other_graph(alloc, planned.plan.dag(), &report)?;
     write_viewed(alloc, &view, &planned.plan, &report, out)?;
     Ok(Status::Success)
 }

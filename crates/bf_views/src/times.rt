@@ -8,7 +8,7 @@ ghost use Rattle.bf_views.specs.Times.{AreTimesTold, IsJournalFault, IsNamedJour
 use crate::matching::intervals_of;
 use bf_command_fault::CommandFault;
 use bf_disk::Source;
-use bf_input::named_journal_bytes;
+use bf_input::read_named_journal;
 use bf_interval::Runs;
 use bf_plan::Plan;
 use bf_report::Report;
@@ -22,7 +22,7 @@ fn runs_of(alloc: Global, report: &Report) -> Result<Runs, OutOfMemory>
     ensures { IfOk result (λ runs. runs ≡ intervals_in report.now.runs) }
 {
     let intervals = intervals_of(alloc, report.runs.as_slice())?;
-    Ok(Runs::of(intervals))
+    Ok(Runs::from_intervals(intervals))
 }
 
 /// The times of a journal where there is one.
@@ -49,7 +49,7 @@ fn times_in(
 }
 
 /// Reads the journal where one is named, and makes the times of its tries.
-pub(crate) fn times_asked<S: Source>(
+pub(crate) fn read_times<S: Source>(
     alloc: Global,
     path: Option<String>,
     plan: &Plan,
@@ -65,6 +65,6 @@ pub(crate) fn times_asked<S: Source>(
     ensures fault { IfErr result (IsNamedJournalFault (S.file files.old)
         (option_map string_bytes path) plan.now.dag (intervals_in report.now.runs)) }
 {
-    let journal = named_journal_bytes(alloc, path, files)?;
+    let journal = read_named_journal(alloc, path, files)?;
     times_in(alloc, plan, report, journal.as_deref())
 }

@@ -4,7 +4,7 @@ use Rattle.std.proofs.lemmas.Int.{ints, clamps, by_lt_z}
 use Rattle.std.specs.Int.{int_min}
 use Rattle.bf_waiting.specs.declared.delays.Delay.{Delay}
 use Rattle.bf_waiting.specs.Classes.{Waits}
-use Rattle.bf_waiting.specs.Looks.{IsSoonestTo, sooner_of}
+use Rattle.bf_waiting.specs.Looks.{IsSoonestTo, earlier_moment_of}
 use Rattle.bf_core.proofs.Numbers.{below_or}
 
 no_item : (d : Delay) (xs : List Delay) → xs ≡ [] → Contains xs d → ⊥
@@ -20,7 +20,7 @@ module _ (classes : List Waits) where
   -- one more class
   pub soonest_more : (n : ℕ) (soonest found : Option ℤ) (c : Waits) → slice_get classes n ≡ Some c →
       IfSome found (λ m. (d : Delay) × Contains c.delays.items d × (d.moment.0 ≡ m)) → IfSome found (λ m. (d : Delay) → Contains c.delays.items d → m ≤ℤ d.moment.0) → IfNone found (c.delays.items ≡ []) →
-      IsSoonestTo n classes soonest → IsSoonestTo (n + 1) classes (sooner_of soonest found)
+      IsSoonestTo n classes soonest → IsSoonestTo (n + 1) classes (earlier_moment_of soonest found)
   soonest_more n soonest found c there one first none is = go soonest found one first none is
     where
       same_class : (j : ℕ) (d : Waits) → slice_get classes j ≡ Some d → j ≡ n → d ≡ c
@@ -30,7 +30,7 @@ module _ (classes : List Waits) where
       here x j d h same con = subst (λ (w : Waits). Contains w.delays.items x) (same_class j d h same) con
 
       go : (soonest found : Option ℤ) → IfSome found (λ m. (d : Delay) × Contains c.delays.items d × (d.moment.0 ≡ m)) → IfSome found (λ m. (d : Delay) → Contains c.delays.items d → m ≤ℤ d.moment.0) → IfNone found (c.delays.items ≡ []) →
-          IsSoonestTo n classes soonest → IsSoonestTo (n + 1) classes (sooner_of soonest found)
+          IsSoonestTo n classes soonest → IsSoonestTo (n + 1) classes (earlier_moment_of soonest found)
       go None None one first none is = λ j d x l h con. elim (below_or j n l) [ inl less ↦ is j d x less h con | inr same ↦ no_item x c.delays.items none (here x j d h same con) ]
       go None (Some f) one first none is = (
         (n, c, one.0, there, one.1, one.2),

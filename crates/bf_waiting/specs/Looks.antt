@@ -52,10 +52,10 @@ IsTryOfBatch backfill batch (Some name) =
     instance.attempt)
 
 -- the earlier of two moments
-abbrev pub sooner_of : Option ℤ → Option ℤ → Option ℤ
-sooner_of None found = found
-sooner_of (Some moment) None = Some moment
-sooner_of (Some moment) (Some other) = Some (int_min moment other)
+abbrev pub earlier_moment_of : Option ℤ → Option ℤ → Option ℤ
+earlier_moment_of None found = found
+earlier_moment_of (Some moment) None = Some moment
+earlier_moment_of (Some moment) (Some other) = Some (int_min moment other)
 
 -- of so many classes from the first on, the earliest moment
 abbrev pub IsSoonestTo : ℕ → List Waits → Option ℤ → Type 0

@@ -25,14 +25,14 @@ use std::marker::Model;
 
 /// The tasks of one pool that take as many of its slots, and those of their instances that wait.
 #[derive(Drop)]
-pub(crate) struct Class {
+pub(crate) struct SlotClass {
     /// One of the tasks.
     pub task: u32,
     pub(crate) batches: Batches,
     delays: Delays,
 }
 
-impl Model for Class {
+impl Model for SlotClass {
     ghost use Rattle.bf_waiting.specs.Classes.{IsRoomy, Waits};
     ghost use Rattle.bf_waiting.specs.contracts.batches.Batch;
     ghost use Rattle.bf_waiting.specs.contracts.delays.Delay;
@@ -72,7 +72,7 @@ fn batch_to_place(weights: &[u32], run: u32, task: u32, place: usize) -> Batch
 }
 
 /// Lets the delays be batches whose moment has come.
-fn release(batches: &mut Batches, delays: &mut Delays, weights: &[u32], now: i64)
+fn batch_due_delays(batches: &mut Batches, delays: &mut Delays, weights: &[u32], now: i64)
     requires { IsRoomy batches.old delays.old }
     ensures roomy { IsRoomy batches.new delays.new }
     ensures released { AreReleased now weights.now batches.old.items delays.old.items
@@ -106,7 +106,7 @@ fn first_ready(core: &Core<'_>, batch: Batch) -> Option<u32>
 }
 
 /// Passes over the first instances of the greatest batches until one is ready.
-fn clean(batches: &mut Batches, core: &Core<'_>)
+fn pass_over_unready(batches: &mut Batches, core: &Core<'_>)
     requires { length batches.old.items ≤ batches.old.room }
     ensures cleaned { IsCleaned core.now batches.old.items batches.new.items }
     ensures fewer { length batches.new.items ≤ length batches.old.items }
@@ -127,14 +127,14 @@ fn clean(batches: &mut Batches, core: &Core<'_>)
     }
 }
 
-impl Class {
+impl SlotClass {
     /// A class of which nothing waits.
-    pub(crate) fn new(alloc: Global, task: u32) -> Class
+    pub(crate) fn new(alloc: Global, task: u32) -> SlotClass
         ensures task { result.task ≡ task }
         ensures batches { result.batches.items ≡ [] }
         ensures delays { result.delays.items ≡ [] }
     {
-        Class {
+        SlotClass {
             task,
             batches: Batches::new(alloc),
             delays: Delays::new(alloc),
@@ -151,7 +151,7 @@ impl Class {
     }
 
     /// The earliest of the moments for which its instances wait.
-    pub(crate) fn moment(&self) -> Option<i64>
+    pub(crate) fn earliest_moment(&self) -> Option<i64>
         ensures one { IfSome result (λ m. (d : Delay) × Contains self.now.delays.items d
             × (Delay.moment.0 ≡ m)) }
         ensures first { IfSome result (λ m. (d : Delay) → Contains self.now.delays.items d
@@ -196,26 +196,26 @@ impl Class {
     }
 
     /// Lets the instances be ready whose moment has come.
-    fn release(&mut self, weights: &[u32], now: i64)
+    fn batch_due_delays(&mut self, weights: &[u32], now: i64)
         ensures task { self.new.task ≡ self.old.task }
         ensures released { AreReleased now weights.now self.old.batches.items self.old.delays.items
             self.new.batches.items self.new.delays.items }
         ensures later { (d : Delay) → Contains self.new.delays.items d → now <ℤ Delay.moment.0 }
     {
-        release(&mut self.batches, &mut self.delays, weights, now);
+        batch_due_delays(&mut self.batches, &mut self.delays, weights, now);
     }
 
     /// Passes over the first instances of the greatest batches until one is ready.
-    fn clean(&mut self, core: &Core<'_>)
+    fn pass_over_unready(&mut self, core: &Core<'_>)
         ensures task { self.new.task ≡ self.old.task }
         ensures cleaned { IsCleaned core.now self.old.batches.items self.new.batches.items }
         ensures delays { self.new.delays.items ≡ self.old.delays.items }
     {
-        clean(&mut self.batches, core);
+        pass_over_unready(&mut self.batches, core);
     }
 
     /// Takes up all instances that a task has in a run, as one batch; those of them that are delayed aren't ready in it.
-    fn take_up(&mut self, core: &Core<'_>, weights: &[u32], run: u32, task: u32)
+    fn batch_all(&mut self, core: &Core<'_>, weights: &[u32], run: u32, task: u32)
         requires { HasRoom self.old }
         ensures task { self.new.task ≡ self.old.task }
         ensures taken { HasTakenUp core.now weights.now run task Anywhere self.old.batches.items
@@ -229,7 +229,14 @@ impl Class {
     }
 
     /// Takes up the instance at a place.
-    fn take_up_one(&mut self, core: &Core<'_>, weights: &[u32], run: u32, task: u32, place: u32)
+    fn take_up_instance(
+        &mut self,
+        core: &Core<'_>,
+        weights: &[u32],
+        run: u32,
+        task: u32,
+        place: u32,
+    )
         requires { HasRoom self.old }
         ensures task { self.new.task ≡ self.old.task }
         ensures taken { HasTakenUp core.now weights.now run task (At place) self.old.batches.items
@@ -250,7 +257,13 @@ impl Class {
     }
 
     /// Takes up the instance at a place where it is delayed.
-    fn delay(&mut self, core: &Core<'_>, run: u32, task: u32, place: u32) -> Result<(), OutOfMemory>
+    fn delay_instance(
+        &mut self,
+        core: &Core<'_>,
+        run: u32,
+        task: u32,
+        place: u32,
+    ) -> Result<(), OutOfMemory>
         ensures task { self.new.task ≡ self.old.task }
         ensures batches { self.new.batches.items ≡ self.old.batches.items }
         ensures delayed { OnOk result (HasDelayed core.now run task (At place) self.old.delays.items
@@ -277,13 +290,13 @@ impl Class {
     {
         let count = instances_of(core, run, task).len() as u32;
         for place in 0..count {
-            self.delay(core, run, task, place)?;
+            self.delay_instance(core, run, task, place)?;
         }
         Ok(())
     }
 
     /// Takes up all instances that a task has in a run.
-    pub(crate) fn take_in(
+    pub(crate) fn take_up_all(
         &mut self,
         core: &Core<'_>,
         weights: &[u32],
@@ -294,37 +307,37 @@ impl Class {
         ensures keeps { OnOk result (TakesIn core.now weights.now run task self.old self.new) }
     {
         self.make_room()?;
-        self.take_up(core, weights, run, task);
+        self.batch_all(core, weights, run, task);
         self.delay_all(core, run, task)?;
-        self.clean(core);
+        self.pass_over_unready(core);
         Ok(())
     }
 }
 
-impl Class {
+impl SlotClass {
     /// After a task is decided.
-    pub(crate) fn admit(&mut self, core: &Core<'_>, weights: &[u32], run: u32, task: u32)
+    pub(crate) fn on_decision(&mut self, core: &Core<'_>, weights: &[u32], run: u32, task: u32)
         requires { HasRoom self.old }
         ensures task { self.new.task ≡ self.old.task }
         ensures keeps { (expands : Bool) (class_of : List ℕ) (class : ℕ) → slice_index class_of task
             ≡ class → KeepsOver (deciding expands run task) core.now weights.now class_of class
             self.old self.new }
     {
-        self.take_up(core, weights, run, task);
-        self.clean(core);
+        self.batch_all(core, weights, run, task);
+        self.pass_over_unready(core);
     }
 
     /// After a try began.
-    pub(crate) fn begin(&mut self, core: &Core<'_>)
+    pub(crate) fn on_begin(&mut self, core: &Core<'_>)
         ensures task { self.new.task ≡ self.old.task }
         ensures keeps { (n : JobName) (weights class_of : List ℕ) (class : ℕ)
             → KeepsOver (Event.Begin n) core.now weights class_of class self.old self.new }
     {
-        self.clean(core);
+        self.pass_over_unready(core);
     }
 
     /// After a try of the instance at a place ended.
-    pub(crate) fn readmit(
+    pub(crate) fn on_end(
         &mut self,
         core: &Core<'_>,
         weights: &[u32],
@@ -338,17 +351,17 @@ impl Class {
             → IsOfPlace core.now.dag n run task place → slice_index class_of task ≡ class →
             KeepsOver (Event.End n o) core.now weights.now class_of class self.old self.new }
     {
-        self.take_up_one(core, weights, run, task, place);
-        self.clean(core);
+        self.take_up_instance(core, weights, run, task, place);
+        self.pass_over_unready(core);
     }
 
     /// After the clock moved.
-    pub(crate) fn tick(&mut self, core: &Core<'_>, weights: &[u32], now: i64)
+    pub(crate) fn on_tick(&mut self, core: &Core<'_>, weights: &[u32], now: i64)
         ensures task { self.new.task ≡ self.old.task }
         ensures keeps { (class_of : List ℕ) (class : ℕ)
             → KeepsOver (Event.Tick now) core.now weights.now class_of class self.old self.new }
     {
-        self.release(weights, now);
-        self.clean(core);
+        self.batch_due_delays(weights, now);
+        self.pass_over_unready(core);
     }
 }

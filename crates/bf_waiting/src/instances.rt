@@ -57,7 +57,7 @@ fn standing_of(core: &Core<'_>, run: u32, task: u32, place: u32, instance: &Inst
         place as usize,
         instance.attempt,
     );
-    match core.moment(name) {
+    match core.later_moment_of(name) {
         None => Standing::Ready,
         Some(moment) => Standing::Delayed(moment),
     }

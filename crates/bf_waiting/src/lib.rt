@@ -13,5 +13,5 @@ mod waiting;
 mod weight;
 
 pub use instances::instances_of;
-pub use waiting::{Waiting, sooner};
-pub use weight::{weight_of, weights};
+pub use waiting::{Waiting, earlier_moment};
+pub use weight::{total_weights_of, weight_of};

@@ -11,14 +11,14 @@ ghost use Rattle.bf_waiting.specs.Kept.{HasRoomFor, HasRoomOf, KeepsTries, Keeps
 ghost use Rattle.bf_waiting.specs.Choices.{AreWeights, IsNextMoment, IsNextTry};
 ghost use Rattle.bf_waiting.specs.Filling.{AreClassedTo, AreEmpty, AreFilled};
 ghost use Rattle.bf_waiting.specs.Heaps.{Leads};
-ghost use Rattle.bf_waiting.specs.Looks.{IsBestOf, IsLeading, IsSoonestOf, IsTryOfBatch, MayTake, sooner_of};
+ghost use Rattle.bf_waiting.specs.Looks.{IsBestOf, IsLeading, IsSoonestOf, IsTryOfBatch, MayTake, earlier_moment_of};
 ghost use Rattle.bf_waiting.specs.declared.waiting.Waiting.{Waiting};
 ghost use Rattle.bf_waiting.specs.declared.batches.Batch.{Batch};
 
 use crate::batches::Batch;
-use crate::class::Class;
+use crate::class::SlotClass;
 use crate::instances::instances_of;
-use crate::weight::weights;
+use crate::weight::total_weights_of;
 use bf_core::{Core, Event, name_of, place_of};
 use bf_plan::Plan;
 use bf_value::{JobName, OutOfMemory};
@@ -33,11 +33,11 @@ pub struct Waiting {
     /// The place of each task's class.
     pub(crate) class_of: Vec<usize>,
     /// The tasks by pool and slots: of one class all have room, or none has.
-    pub(crate) classes: Vec<Class>,
+    pub(crate) classes: Vec<SlotClass>,
 }
 
 /// Whether two tasks take as many slots of the same pool.
-fn take_alike(plan: &Plan, one: u32, other: u32) -> bool
+fn take_same_slots(plan: &Plan, one: u32, other: u32) -> bool
     requires one { one < length plan.now.dag.tasks }
     requires other { other < length plan.now.dag.tasks }
     ensures { IsTrue result ↔
@@ -50,13 +50,13 @@ fn take_alike(plan: &Plan, one: u32, other: u32) -> bool
 }
 
 /// The first class of these whose tasks take what a task takes.
-fn class_like(plan: &Plan, classes: &[Class], task: u32) -> Option<usize>
+fn find_class_for(plan: &Plan, classes: &[SlotClass], task: u32) -> Option<usize>
     requires task { task < length plan.now.dag.tasks }
     requires empty { AreEmpty plan.now.dag classes.now }
     ensures { IfSome result (λ j. IsClassOf plan.now.dag plan.now.limits classes.now j task) }
 {
     for (place, class) in classes.iter().enumerate() {
-        if take_alike(plan, class.task, task) {
+        if take_same_slots(plan, class.task, task) {
             return Some(place);
         }
     }
@@ -64,10 +64,10 @@ fn class_like(plan: &Plan, classes: &[Class], task: u32) -> Option<usize>
 }
 
 /// The place of the class of a task, which is added where it isn't there.
-fn class_for(
+fn find_or_add_class(
     alloc: Global,
     plan: &Plan,
-    classes: &mut Vec<Class>,
+    classes: &mut Vec<SlotClass>,
     task: u32,
 ) -> Result<usize, OutOfMemory>
     requires task { task < length plan.now.dag.tasks }
@@ -79,11 +79,11 @@ fn class_for(
     ensures empty { OnOk result (AreEmpty plan.now.dag classes.new.items) }
     ensures few { IfOk result (λ j. j < length classes.new.items) }
 {
-    if let Some(class) = class_like(plan, classes.as_slice(), task) {
+    if let Some(class) = find_class_for(plan, classes.as_slice(), task) {
         return Ok(class);
     }
     let class = classes.len();
-    classes.push(Class::new(alloc, task))?;
+    classes.push(SlotClass::new(alloc, task))?;
     Ok(class)
 }
 
@@ -104,12 +104,12 @@ impl Waiting {
         ensures classes { IfOk result (λ w. AreClassedTo plan.now.dag plan.now.limits
             (length plan.now.dag.tasks) w.class_of.items w.classes.items) }
     {
-        let weights = weights(alloc, plan)?;
+        let weights = total_weights_of(alloc, plan)?;
         let tasks = plan.dag().tasks.len();
         let mut class_of = Vec::with_capacity(alloc, tasks)?;
         let mut classes = Vec::new(alloc);
         for task in 0..tasks {
-            class_of.push(class_for(alloc, plan, &mut classes, task as u32)?)?;
+            class_of.push(find_or_add_class(alloc, plan, &mut classes, task as u32)?)?;
         }
         Ok(Waiting {
             weights,
@@ -124,7 +124,7 @@ impl Waiting {
         ensures { OnOk result (KeepsTries core.now self.new) }
     {
         let _replayed = core.journal();
-        for run in 0..core.runs() {
+        for run in 0..core.run_count() {
             self.fill_run(core, run)?;
         }
         Ok(())
@@ -152,7 +152,7 @@ impl Waiting {
             None => Ok(()),
             Some(class) => {
                 let class = &mut self.classes[class];
-                class.take_in(core, self.weights.as_slice(), run, task)
+                class.take_up_all(core, self.weights.as_slice(), run, task)
             }
         }
     }
@@ -183,7 +183,7 @@ fn has_room(core: &Core<'_>, task: u32) -> bool
 }
 
 /// The greater of two batches.
-fn leading(best: Option<Batch>, found: Option<Batch>) -> Option<Batch>
+fn greater_batch(best: Option<Batch>, found: Option<Batch>) -> Option<Batch>
     ensures { IsLeading best found result }
 {
     match (best, found) {
@@ -194,7 +194,7 @@ fn leading(best: Option<Batch>, found: Option<Batch>) -> Option<Batch>
 }
 
 /// The greatest batch of a class, where that has room.
-fn candidate(core: &Core<'_>, class: &Class) -> Option<Batch>
+fn first_batch_with_room(core: &Core<'_>, class: &SlotClass) -> Option<Batch>
     ensures some { IfSome result (λ x. MayTake core.now class.now
         × (Some x ≡ slice_get class.now.batches.items 0)) }
     ensures first { IfSome result (λ x. (y : Batch) → Contains class.now.batches.items y
@@ -210,18 +210,18 @@ fn candidate(core: &Core<'_>, class: &Class) -> Option<Batch>
 }
 
 /// The greatest batch of the classes that have room.
-fn best_of(classes: &[Class], core: &Core<'_>) -> Option<Batch>
+fn greatest_batch_of(classes: &[SlotClass], core: &Core<'_>) -> Option<Batch>
     ensures { IsBestOf core.now classes.now result }
 {
     let mut best = None;
     for class in classes {
-        best = leading(best, candidate(core, class));
+        best = greater_batch(best, first_batch_with_room(core, class));
     }
     best
 }
 
 /// The present try of the first instance of a batch.
-fn first_try(core: &Core<'_>, batch: Batch) -> Option<JobName>
+fn first_try_of_batch(core: &Core<'_>, batch: Batch) -> Option<JobName>
     ensures { IsTryOfBatch core.now batch result }
 {
     let place = batch.first.0 as usize;
@@ -231,8 +231,8 @@ fn first_try(core: &Core<'_>, batch: Batch) -> Option<JobName>
 }
 
 /// The earlier of two moments.
-pub fn sooner(soonest: Option<i64>, found: Option<i64>) -> Option<i64>
-    ensures { result ≡ sooner_of soonest found }
+pub fn earlier_moment(soonest: Option<i64>, found: Option<i64>) -> Option<i64>
+    ensures { result ≡ earlier_moment_of soonest found }
 {
     match (soonest, found) {
         (None, found) => found,
@@ -242,12 +242,12 @@ pub fn sooner(soonest: Option<i64>, found: Option<i64>) -> Option<i64>
 }
 
 /// The earliest of the moments of the classes.
-fn soonest_of(classes: &[Class]) -> Option<i64>
+fn earliest_moment_of(classes: &[SlotClass]) -> Option<i64>
     ensures { IsSoonestOf classes.now result }
 {
     let mut soonest = None;
     for class in classes {
-        soonest = sooner(soonest, class.moment());
+        soonest = earlier_moment(soonest, class.earliest_moment());
     }
     soonest
 }
@@ -255,25 +255,25 @@ fn soonest_of(classes: &[Class]) -> Option<i64>
 impl Waiting {
     /// The try that begins next: of those that may begin now the one of the greatest total weight, and of several the
     /// first by run, in the order of the file and by map index.
-    pub fn first(&self, core: &Core<'_>) -> Option<JobName>
+    pub fn next_try(&self, core: &Core<'_>) -> Option<JobName>
         ensures { KeepsTries core.now self.now → IsNextTry core.now result }
     {
-        match best_of(self.classes.as_slice(), core) {
+        match greatest_batch_of(self.classes.as_slice(), core) {
             None => None,
-            Some(batch) => first_try(core, batch),
+            Some(batch) => first_try_of_batch(core, batch),
         }
     }
 
     /// The least of the later moments for which tries wait, in seconds since 1970.
-    pub fn moment(&self) -> Option<i64>
+    pub fn next_moment(&self) -> Option<i64>
         ensures { (b : Backfill) → KeepsTries b self.now → IsNextMoment b result }
     {
-        soonest_of(self.classes.as_slice())
+        earliest_moment_of(self.classes.as_slice())
     }
 }
 
 /// The task whose instances an event may let wait.
-fn task_to_wait(event: &Event) -> Option<u32>
+fn task_let_wait_by(event: &Event) -> Option<u32>
     ensures { (w : Waiting) → MatchOption result (HasRoomFor event.now w)
         (λ t. HasRoomOf t w → HasRoomFor event.now w) }
 {
@@ -290,7 +290,7 @@ impl Waiting {
         ensures kept { (b : Backfill) → KeepsTries b self.old → KeepsTries b self.new }
         ensures room { OnOk result (HasRoomFor event.now self.new) }
     {
-        let Some(task) = task_to_wait(event) else {
+        let Some(task) = task_let_wait_by(event) else {
             return Ok(());
         };
         self.make_room_of(task)
@@ -318,58 +318,58 @@ impl Waiting {
         match event {
             Event::Open | Event::Close { .. } => {}
             Event::Settle { run, task } | Event::Expand { run, task } => {
-                self.admit(core, *run, *task);
+                self.on_decision(core, *run, *task);
             }
-            Event::Begin(name) => self.begin(core, name.task),
+            Event::Begin(name) => self.on_begin(core, name.task),
             Event::End(name, _) => {
                 let place = place_of(core.plan().dag(), *name);
-                self.readmit(core, name.run, name.task, place);
+                self.on_end(core, name.run, name.task, place);
             }
-            Event::Tick { moment } => self.tick(core, *moment),
+            Event::Tick { moment } => self.on_tick(core, *moment),
         }
     }
 
     /// After a task is decided.
-    fn admit(&mut self, core: &Core<'_>, run: u32, task: u32)
+    fn on_decision(&mut self, core: &Core<'_>, run: u32, task: u32)
         requires { HasRoomOf task self.old }
         ensures { (expands : Bool) → KeepsTriesOver (deciding expands run task) core.now self.old
             self.new }
     {
         if let Some(class) = self.class_at(task) {
             let class = &mut self.classes[class];
-            class.admit(core, self.weights.as_slice(), run, task);
+            class.on_decision(core, self.weights.as_slice(), run, task);
         }
     }
 
     /// After a try of a task began.
-    fn begin(&mut self, core: &Core<'_>, task: u32)
+    fn on_begin(&mut self, core: &Core<'_>, task: u32)
         ensures { (n : JobName) → n.task ≡ task
             → KeepsTriesOver (Event.Begin n) core.now self.old self.new }
     {
         if let Some(class) = self.class_at(task) {
             let class = &mut self.classes[class];
-            class.begin(core);
+            class.on_begin(core);
         }
     }
 
     /// After a try of the instance at a place ended.
-    fn readmit(&mut self, core: &Core<'_>, run: u32, task: u32, place: u32)
+    fn on_end(&mut self, core: &Core<'_>, run: u32, task: u32, place: u32)
         requires { HasRoomOf task self.old }
         ensures { (n : JobName) (o : Outcome) → IsOfPlace core.now.dag n run task place
             → KeepsTriesOver (Event.End n o) core.now self.old self.new }
     {
         if let Some(class) = self.class_at(task) {
             let class = &mut self.classes[class];
-            class.readmit(core, self.weights.as_slice(), run, task, place);
+            class.on_end(core, self.weights.as_slice(), run, task, place);
         }
     }
 
     /// After the clock moved.
-    fn tick(&mut self, core: &Core<'_>, now: i64)
+    fn on_tick(&mut self, core: &Core<'_>, now: i64)
         ensures { KeepsTriesOver (Event.Tick now) core.now self.old self.new }
     {
         for class in self.classes.iter_mut() {
-            class.tick(core, self.weights.as_slice(), now);
+            class.on_tick(core, self.weights.as_slice(), now);
         }
     }
 }

@@ -8,7 +8,7 @@ use bf_value::OutOfMemory;
 use std::alloc::Global;
 
 /// The total weight of each task.
-pub fn weights(alloc: Global, plan: &Plan) -> Result<Vec<u32>, OutOfMemory>
+pub fn total_weights_of(alloc: Global, plan: &Plan) -> Result<Vec<u32>, OutOfMemory>
     ensures { IfOk result (λ ws. AreWeights plan.now.dag plan.now.limits ws.items) }
 {
     let tasks = plan.dag().tasks.len();

@@ -7,11 +7,11 @@ use Rattle.bf_rule.specs.Verdicts.{total_of}
 use Rattle.bf_moment.specs.Moment.{moment_text}
 use Rattle.bf_report.specs.declared.report.RunReport.{RunReport}
 use Rattle.bf_report.specs.declared.report.TaskReport.{TaskReport}
-use Rattle.bf_xcom.specs.Pulls.{pushed_alone_in}
+use Rattle.bf_xcom.specs.Pulls.{only_pushed_value_in}
 use Rattle.bf_reason.specs.declared.cause.StateCause.{StateCause}
 use Rattle.bf_reason.specs.Settled.{results_of, seen_among, value_among}
-use Rattle.bf_wording.specs.Lists.{listed_of}
-use Rattle.bf_wording.specs.Numbers.{plural_of}
+use Rattle.bf_wording.specs.Lists.{name_list_of}
+use Rattle.bf_wording.specs.Numbers.{count_text_of}
 use Rattle.bf_why.specs.Counted.{counts_text_of}
 use Rattle.bf_why.specs.Since.{rule_text_of, since, since_text_of, verdict_text_of}
 use Rattle.bf_wording.specs.Values.{value_text_of}
@@ -25,7 +25,7 @@ abbrev pub branch_sentence_of : Dag → List TaskReport → ℕ → List ℕ
 branch_sentence_of dag tasks branch =
     codes "The branch " ++ (id_of dag branch
     ++ (codes " succeeded and doesn't follow it: it pushed "
-    ++ (value_text_of 200 (pushed_alone_in (results_of (value_among tasks branch))) ++ codes ".")))
+    ++ (value_text_of 200 (only_pushed_value_in (results_of (value_among tasks branch))) ++ codes ".")))
 
 -- where it is a branch that succeeded and doesn't follow the task
 abbrev pub branch_where : Dag → List TaskReport → ℕ → ℕ → List (List ℕ)
@@ -35,17 +35,17 @@ branch_where dag tasks task branch =
 
 abbrev pub have_no_status_of : List (List ℕ) → List ℕ
 have_no_status_of names =
-    listed_of 5 names ++ (if length names == 1 then codes " has no status."
+    name_list_of 5 names ++ (if length names == 1 then codes " has no status."
     else codes " have no status.")
 
-abbrev pub branches_sentence_of : List (List ℕ) → List ℕ
-branches_sentence_of names =
+abbrev pub blocked_branches_sentence_of : List (List ℕ) → List ℕ
+blocked_branches_sentence_of names =
     codes "Directly upstream, the "
     ++ ((if length names == 1 then codes "branch " else codes "branches ")
     ++ have_no_status_of names)
 
-abbrev pub upstreams_sentence_of : List (List ℕ) → List ℕ
-upstreams_sentence_of names = codes "Directly upstream, " ++ have_no_status_of names
+abbrev pub blocked_upstreams_sentence_of : List (List ℕ) → List ℕ
+blocked_upstreams_sentence_of names = codes "Directly upstream, " ++ have_no_status_of names
 
 -- the upstreams of the task that are so, by their ids
 abbrev pub ids_where : Dag → ℕ → (ℕ → Bool) → List (List ℕ)
@@ -55,21 +55,21 @@ ids_where dag task holds =
 -- ---- the rule
 
 -- as `3 upstream instances (2 success, 1 failed)`
-abbrev pub over_text_of : Counts → List ℕ
-over_text_of counts =
-    plural_of (total_of counts) (codes "upstream instance")
+abbrev pub over_instances_text_of : Counts → List ℕ
+over_instances_text_of counts =
+    count_text_of (total_of counts) (codes "upstream instance")
     ++ (codes " (" ++ (counts_text_of counts ++ codes ")"))
 
 abbrev pub rule_sentence_of : Dag → List TaskReport → ℕ → Verdict → List ℕ
 rule_sentence_of dag tasks task verdict =
     codes "Its rule " ++ (rule_text_of (task_of dag task).rule ++ (codes ", over "
-    ++ (over_text_of (counts_over (seen_among tasks) (task_of dag task).upstreams)
+    ++ (over_instances_text_of (counts_over (seen_among tasks) (task_of dag task).upstreams)
     ++ (codes ", says " ++ (verdict_text_of verdict
     ++ (codes ", " ++ (since_text_of dag tasks task (since (task_of dag task).rule verdict)
     ++ codes ".")))))))
 
-abbrev pub ruled_of : Dag → List TaskReport → ℕ → Verdict → List ℕ
-ruled_of dag tasks task verdict =
+abbrev pub ruled_text_of : Dag → List TaskReport → ℕ → Verdict → List ℕ
+ruled_text_of dag tasks task verdict =
     if length (task_of dag task).upstreams == 0
     then codes "It has no upstream tasks, so no rule holds it back."
     else rule_sentence_of dag tasks task verdict
@@ -82,9 +82,9 @@ came_of_outcome_of Outcome.Failed = codes "failed"
 came_of_outcome_of Outcome.Skipped = codes "was skipped"
 
 -- of an expanded one
-abbrev pub came_to_of : ℕ → Counts → List ℕ
-came_to_of instances counts =
-    codes "came to " ++ (plural_of instances (codes "instance")
+abbrev pub came_to_text_of : ℕ → Counts → List ℕ
+came_to_text_of instances counts =
+    codes "came to " ++ (count_text_of instances (codes "instance")
     ++ (codes " (" ++ (counts_text_of counts ++ codes ")")))
 
 -- what came of a task in a run; one that isn't there had no status
@@ -95,7 +95,7 @@ came_of (Some TaskReport.Skipped) = codes "was skipped"
 came_of (Some TaskReport.UpstreamFailed) = codes "was upstream_failed"
 came_of (Some (TaskReport.Ran instance)) = came_of_outcome_of instance.result.outcome
 came_of (Some (TaskReport.Mapped instances)) =
-    came_to_of (length instances) (counts_of_results_of
+    came_to_text_of (length instances) (counts_of_results_of
     (map (λ instance. instance.result) instances))
 
 -- of a task that depends on its past, by the run before
@@ -113,9 +113,9 @@ abbrev pub items_text_of : Bool → Option TaskReport → StateCause → List �
 items_text_of each source StateCause.ItemsAreMissing =
     codes ", which pushed no list: it " ++ (came_of source ++ codes ".")
 items_text_of true source (StateCause.Runs count) =
-    codes ": " ++ (plural_of count (codes "value") ++ codes " that its instances pushed.")
+    codes ": " ++ (count_text_of count (codes "value") ++ codes " that its instances pushed.")
 items_text_of false source (StateCause.Runs count) =
-    codes ": " ++ (plural_of count (codes "item") ++ codes " of the list that it pushed.")
+    codes ": " ++ (count_text_of count (codes "item") ++ codes " of the list that it pushed.")
 items_text_of true source cause = codes ", whose instances pushed nothing."
 items_text_of false source cause = codes ", which pushed an empty list."
 
@@ -139,16 +139,16 @@ abbrev pub decided_of : Dag → List TaskReport → Option RunReport → ℕ →
 decided_of dag tasks before task StateCause.NotFollowed =
     flat_map (branch_where dag tasks task) (task_of dag task).upstreams
 decided_of dag tasks before task StateCause.BranchIsBlocked =
-    branches_sentence_of (ids_where dag task
+    blocked_branches_sentence_of (ids_where dag task
     (λ u. branch_is dag is_blocked_in u (Some (value_among tasks u)))) ∷ []
 decided_of dag tasks before task StateCause.UpstreamIsBlocked =
-    upstreams_sentence_of (ids_where dag task (λ u. is_blocked_in (value_among tasks u))) ∷ []
-decided_of dag tasks before task StateCause.RuleSkips = ruled_of dag tasks task Verdict.Skip ∷ []
+    blocked_upstreams_sentence_of (ids_where dag task (λ u. is_blocked_in (value_among tasks u))) ∷ []
+decided_of dag tasks before task StateCause.RuleSkips = ruled_text_of dag tasks task Verdict.Skip ∷ []
 decided_of dag tasks before task StateCause.RuleFails =
-    ruled_of dag tasks task Verdict.UpstreamFailed ∷ []
+    ruled_text_of dag tasks task Verdict.UpstreamFailed ∷ []
 decided_of dag tasks before task StateCause.PastHasNotPassed =
-    ruled_of dag tasks task Verdict.Run ∷ past_sentences dag before task
+    ruled_text_of dag tasks task Verdict.Run ∷ past_sentences dag before task
 decided_of dag tasks before task cause =
-    ruled_of dag tasks task Verdict.Run
+    ruled_text_of dag tasks task Verdict.Run
     ∷ (past_sentences dag before task
     ++ source_sentences dag tasks cause (task_of dag task).expand)

@@ -5,7 +5,7 @@ use Rattle.bf_core.specs.Terms.{Counts, Dag, Rule, Verdict, task_of}
 use Rattle.bf_core.specs.Deciding.{counts_in}
 use Rattle.bf_report.specs.declared.report.TaskReport.{TaskReport}
 use Rattle.bf_wording.specs.Numbers.{number_text}
-use Rattle.bf_wording.specs.Lists.{listed_of}
+use Rattle.bf_wording.specs.Lists.{name_list_of}
 use Rattle.bf_reason.specs.Settled.{value_among}
 use Rattle.bf_why.specs.declared.states.States.{States}
 
@@ -78,8 +78,8 @@ count_of states counts =
     + (if states.upstream_failed then counts.upstream_failed else 0) + (if states.skipped
     then counts.skipped else 0)
 
-abbrev pub has_of : List TaskReport → States → ℕ → Bool
-has_of tasks states task = nat_lt 0 (count_of states (counts_in (value_among tasks task)))
+abbrev pub has_instance_of : List TaskReport → States → ℕ → Bool
+has_instance_of tasks states task = nat_lt 0 (count_of states (counts_in (value_among tasks task)))
 
 abbrev pub shared : List ℕ → ℕ → ℕ → List ℕ
 shared id n all =
@@ -98,7 +98,7 @@ name_in dag tasks states task =
 -- an upstream with an instance in these states
 abbrev pub name_where : Dag → List TaskReport → States → ℕ → List (List ℕ)
 name_where dag tasks states task =
-    if has_of tasks states task then name_in dag tasks states task ∷ [] else []
+    if has_instance_of tasks states task then name_in dag tasks states task ∷ [] else []
 
 -- those upstreams of the task
 abbrev pub names_in : Dag → List TaskReport → ℕ → States → List (List ℕ)
@@ -107,4 +107,4 @@ names_in dag tasks task states = flat_map (name_where dag tasks states) (task_of
 abbrev pub since_text_of : Dag → List TaskReport → ℕ → Since → List ℕ
 since_text_of dag tasks task (words text) = text
 since_text_of dag tasks task (because_of_states states) =
-    codes "because of " ++ listed_of 5 (names_in dag tasks task states)
+    codes "because of " ++ name_list_of 5 (names_in dag tasks task states)

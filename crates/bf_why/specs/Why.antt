@@ -7,41 +7,41 @@ use Rattle.bf_report.specs.declared.report.RunReport.{RunReport}
 use Rattle.bf_report.specs.declared.report.TaskReport.{TaskReport}
 use Rattle.bf_reason.specs.declared.cause.StateCause.{StateCause}
 use Rattle.bf_reason.specs.Letters.{letter_for}
-use Rattle.bf_wording.specs.Numbers.{plural_of}
+use Rattle.bf_wording.specs.Numbers.{count_text_of}
 use Rattle.bf_why.specs.Counted.{counts_text_of}
 use Rattle.bf_why.specs.Decided.{decided_of}
 use Rattle.bf_why.specs.Tried.{tried_of}
 
 -- ---- what doesn't follow from the graph
 
-abbrev pub would_run_of : Bool → ℕ → List ℕ
-would_run_of true count =
+abbrev pub would_run_text_of : Bool → ℕ → List ℕ
+would_run_text_of true count =
     codes "By this graph it would have run, with "
-    ++ (plural_of count (codes "instance") ++ codes ":")
-would_run_of false count = codes "By this graph it would have run, as one instance:"
+    ++ (count_text_of count (codes "instance") ++ codes ":")
+would_run_text_of false count = codes "By this graph it would have run, as one instance:"
 
 -- what the graph makes of it
-abbrev pub would_be_of : Bool → StateCause → List ℕ
-would_be_of expanded StateCause.NotFollowed = codes "By this graph it would be skipped:"
-would_be_of expanded StateCause.RuleSkips = codes "By this graph it would be skipped:"
-would_be_of expanded StateCause.HasNoItems = codes "By this graph it would be skipped:"
-would_be_of expanded StateCause.RuleFails = codes "By this graph it would be upstream_failed:"
-would_be_of expanded StateCause.ItemsAreMissing = codes "By this graph it would be upstream_failed:"
-would_be_of expanded (StateCause.Runs count) = would_run_of expanded count
-would_be_of expanded cause = codes "By this graph it would be no_status:"
+abbrev pub would_be_text_of : Bool → StateCause → List ℕ
+would_be_text_of expanded StateCause.NotFollowed = codes "By this graph it would be skipped:"
+would_be_text_of expanded StateCause.RuleSkips = codes "By this graph it would be skipped:"
+would_be_text_of expanded StateCause.HasNoItems = codes "By this graph it would be skipped:"
+would_be_text_of expanded StateCause.RuleFails = codes "By this graph it would be upstream_failed:"
+would_be_text_of expanded StateCause.ItemsAreMissing = codes "By this graph it would be upstream_failed:"
+would_be_text_of expanded (StateCause.Runs count) = would_run_text_of expanded count
+would_be_text_of expanded cause = codes "By this graph it would be no_status:"
 
 -- of a task whose letter is a digit: the report has what isn't decided for it
 abbrev pub foreign : Bool → StateCause → TaskReport → List (List ℕ)
 foreign expanded cause told =
     if is_ascii_digit (letter_for expanded cause told)
-    then codes "What the report has doesn't follow from this graph." ∷ would_be_of expanded cause
+    then codes "What the report has doesn't follow from this graph." ∷ would_be_text_of expanded cause
     ∷ [] else []
 
 -- ---- what came of it
 
 abbrev pub came_line_of : ℕ → Counts → List ℕ
 came_line_of instances counts =
-    codes "It came to " ++ (plural_of instances (codes "instance")
+    codes "It came to " ++ (count_text_of instances (codes "instance")
     ++ (codes ": " ++ (counts_text_of counts ++ codes ".")))
 
 abbrev pub tried_if_there : Dag → ℕ → Option TaskResult → List (List ℕ)

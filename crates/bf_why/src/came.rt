@@ -1,6 +1,6 @@
 //! What came of a task in a run, in words.
 ghost use Rattle.std.specs.Prelude.{◌≡◌, ◌∷◌, [], IfOk, Some, option_map};
-ghost use Rattle.bf_why.specs.Decided.{came_of, came_of_outcome_of, came_to_of};
+ghost use Rattle.bf_why.specs.Decided.{came_of, came_of_outcome_of, came_to_text_of};
 ghost use Rattle.bf_report.specs.declared.report.InstanceReport.{InstanceReport};
 
 use crate::counted::counts_text;
@@ -8,7 +8,7 @@ use bf_reason::Settled;
 use bf_report::TaskReport;
 use bf_rule::Counts;
 use bf_value::{OutOfMemory, Text};
-use bf_wording::plural;
+use bf_wording::count_text;
 use bf_xcom::{Outcome, TaskResult};
 use std::alloc::Global;
 
@@ -34,23 +34,23 @@ fn result_text(results: &[TaskResult]) -> &'static str
 }
 
 /// Of an expanded task.
-fn came_to(alloc: Global, instances: usize, counts: &Counts) -> Result<Text, OutOfMemory>
-    ensures { IfOk result (λ text. text ≡ came_to_of instances counts.now) }
+fn came_to_text(alloc: Global, instances: usize, counts: &Counts) -> Result<Text, OutOfMemory>
+    ensures { IfOk result (λ text. text ≡ came_to_text_of instances counts.now) }
 {
-    let instances = plural(alloc, instances as u64, "instance")?;
+    let instances = count_text(alloc, instances as u64, "instance")?;
     let counts = counts_text(alloc, counts)?;
     Ok(Text::new(format!(in alloc; "came to {instances} ({counts})")?))
 }
 
-fn came_of(alloc: Global, task: &Settled<'_>) -> Result<Text, OutOfMemory>
+fn settled_came_text(alloc: Global, task: &Settled<'_>) -> Result<Text, OutOfMemory>
     ensures { IfOk result (λ text. text ≡ came_of (Some task.now)) }
 {
-    match task.told() {
-        TaskReport::NoStatus => Text::copied(alloc, "had no status"),
-        TaskReport::Skipped => Text::copied(alloc, "was skipped"),
-        TaskReport::UpstreamFailed => Text::copied(alloc, "was upstream_failed"),
-        TaskReport::Ran(_) => Text::copied(alloc, result_text(task.results())),
-        TaskReport::Mapped(instances) => came_to(alloc, instances.len(), &task.counts()),
+    match task.task_report() {
+        TaskReport::NoStatus => Text::copy_of(alloc, "had no status"),
+        TaskReport::Skipped => Text::copy_of(alloc, "was skipped"),
+        TaskReport::UpstreamFailed => Text::copy_of(alloc, "was upstream_failed"),
+        TaskReport::Ran(_) => Text::copy_of(alloc, result_text(task.results())),
+        TaskReport::Mapped(instances) => came_to_text(alloc, instances.len(), &task.counts()),
     }
 }
 
@@ -59,7 +59,7 @@ pub(crate) fn came_text(alloc: Global, task: Option<&Settled<'_>>) -> Result<Tex
     ensures { IfOk result (λ text. text ≡ came_of (option_map (λ t. t.now) task.entry)) }
 {
     match task {
-        Some(task) => came_of(alloc, task),
-        None => Text::copied(alloc, "had no status"),
+        Some(task) => settled_came_text(alloc, task),
+        None => Text::copy_of(alloc, "had no status"),
     }
 }

@@ -5,17 +5,17 @@ ghost use Rattle.bf_wording.specs.Numbers.{number_text};
 
 use bf_rule::Counts;
 use bf_value::{OutOfMemory, Text};
-use bf_wording::{number, push_separated};
+use bf_wording::{push_separated, text_of_number};
 use std::alloc::Global;
 
-fn part_text(alloc: Global, count: u32, state: &str) -> Result<Text, OutOfMemory>
+fn state_count_text(alloc: Global, count: u32, state: &str) -> Result<Text, OutOfMemory>
     ensures { IfOk result (λ text. text ≡ number_text count ++ 32 ∷ state.now) }
 {
-    let count = number(alloc, u64::from(count))?;
+    let count = text_of_number(alloc, u64::from(count))?;
     Ok(Text::new(format!(in alloc; "{count} {state}")?))
 }
 
-fn add_part(
+fn add_state_count(
     alloc: Global,
     parts: &mut Vec<Text>,
     count: u32,
@@ -24,7 +24,7 @@ fn add_part(
     ensures { OnOk result (parts.new.items ≡ parts.old.items ++ part count state.now) }
 {
     if count > 0 {
-        parts.push(part_text(alloc, count, state)?)?;
+        parts.push(state_count_text(alloc, count, state)?)?;
     }
     Ok(())
 }
@@ -34,11 +34,11 @@ pub fn counts_text(alloc: Global, counts: &Counts) -> Result<Text, OutOfMemory>
     ensures { IfOk result (λ text. text ≡ counts_text_of counts.now) }
 {
     let mut parts = Vec::new(alloc);
-    add_part(alloc, &mut parts, counts.success, "success")?;
-    add_part(alloc, &mut parts, counts.failed, "failed")?;
-    add_part(alloc, &mut parts, counts.upstream_failed, "upstream_failed")?;
-    add_part(alloc, &mut parts, counts.skipped, "skipped")?;
-    add_part(alloc, &mut parts, counts.blocked, "no_status")?;
+    add_state_count(alloc, &mut parts, counts.success, "success")?;
+    add_state_count(alloc, &mut parts, counts.failed, "failed")?;
+    add_state_count(alloc, &mut parts, counts.upstream_failed, "upstream_failed")?;
+    add_state_count(alloc, &mut parts, counts.skipped, "skipped")?;
+    add_state_count(alloc, &mut parts, counts.blocked, "no_status")?;
     let mut text = String::new(alloc);
     push_separated(&mut text, ", ", parts.as_slice())?;
     Ok(Text::new(text))

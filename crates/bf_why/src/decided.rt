@@ -2,14 +2,15 @@
 ghost use Rattle.std.specs.Prelude.{◌≡◌, ◌<◌, ◌++◌, ◌∷◌, [], IfOk, IfSome, Option, length, option_map};
 ghost use Rattle.bf_core.specs.Terms.{task_of, Verdict};
 ghost use Rattle.bf_reason.specs.declared.cause.StateCause.{StateCause};
-ghost use Rattle.bf_why.specs.Decided.{decided_of, past_sentences, ruled_of, source_sentences};
+ghost use Rattle.bf_why.specs.Decided.{decided_of, past_sentences, ruled_text_of, source_sentences};
 ghost use Rattle.bf_report.specs.declared.report.RunReport.{RunReport};
 
 use crate::past::add_past;
-use crate::rule::ruled;
+use crate::rule::ruled_text;
 use crate::source::add_source;
 use crate::upstreams::{
-    blocked_branches, blocked_tasks, branch_sentences, branches_sentence, upstreams_sentence,
+    blocked_branch_ids, blocked_branches_sentence, blocked_task_ids, blocked_upstreams_sentence,
+    branch_sentences,
 };
 use bf_plan::Plan;
 use bf_reason::{Settled, StateCause};
@@ -26,7 +27,7 @@ fn upstreams_of(plan: &Plan, task: u32) -> &[u32]
     plan.dag().task(task).upstreams.as_slice()
 }
 
-fn by_branches(
+fn lines_by_branches(
     alloc: Global,
     plan: &Plan,
     settled: &[Settled<'_>],
@@ -39,7 +40,7 @@ fn by_branches(
     branch_sentences(alloc, plan, settled, upstreams_of(plan, task), task)
 }
 
-fn by_blocked_branches(
+fn lines_by_blocked_branches(
     alloc: Global,
     plan: &Plan,
     settled: &[Settled<'_>],
@@ -49,11 +50,11 @@ fn by_blocked_branches(
     ensures { (before : Option RunReport) → IfOk result (λ lines.
         lines.items ≡ decided_of plan.now.dag settled.now before task StateCause.BranchIsBlocked) }
 {
-    let names = blocked_branches(alloc, plan, settled, upstreams_of(plan, task))?;
-    one_line(alloc, branches_sentence(alloc, names.as_slice())?)
+    let names = blocked_branch_ids(alloc, plan, settled, upstreams_of(plan, task))?;
+    one_line(alloc, blocked_branches_sentence(alloc, names.as_slice())?)
 }
 
-fn by_blocked_tasks(
+fn lines_by_blocked_tasks(
     alloc: Global,
     plan: &Plan,
     settled: &[Settled<'_>],
@@ -64,11 +65,11 @@ fn by_blocked_tasks(
         lines.items ≡ decided_of plan.now.dag settled.now before task
         StateCause.UpstreamIsBlocked) }
 {
-    let names = blocked_tasks(alloc, plan, settled, upstreams_of(plan, task))?;
-    one_line(alloc, upstreams_sentence(alloc, names.as_slice())?)
+    let names = blocked_task_ids(alloc, plan, settled, upstreams_of(plan, task))?;
+    one_line(alloc, blocked_upstreams_sentence(alloc, names.as_slice())?)
 }
 
-fn by_rule(
+fn lines_by_rule(
     alloc: Global,
     plan: &Plan,
     settled: &[Settled<'_>],
@@ -77,13 +78,13 @@ fn by_rule(
 ) -> Result<Vec<Text>, OutOfMemory>
     requires { task < length plan.now.dag.tasks }
     ensures { IfOk result (λ lines. lines.items
-        ≡ ruled_of plan.now.dag settled.now task verdict ∷ []) }
+        ≡ ruled_text_of plan.now.dag settled.now task verdict ∷ []) }
 {
-    one_line(alloc, ruled(alloc, plan, settled, task, verdict)?)
+    one_line(alloc, ruled_text(alloc, plan, settled, task, verdict)?)
 }
 
 /// Of a task that its rule lets run. The run before has these tasks.
-fn by_past(
+fn lines_by_past(
     alloc: Global,
     plan: &Plan,
     settled: &[Settled<'_>],
@@ -94,16 +95,16 @@ fn by_past(
     requires task { task < length plan.now.dag.tasks }
     requires before { IfSome before (λ run. settled_before.now ≡ run.now.tasks) }
     ensures { IfOk result (λ lines. lines.items
-        ≡ ruled_of plan.now.dag settled.now task Verdict.Run
+        ≡ ruled_text_of plan.now.dag settled.now task Verdict.Run
         ∷ past_sentences plan.now.dag (option_map (λ run. run.now) before.entry) task) }
 {
-    let mut lines = by_rule(alloc, plan, settled, task, Verdict::Run)?;
+    let mut lines = lines_by_rule(alloc, plan, settled, task, Verdict::Run)?;
     add_past(alloc, &mut lines, plan, before, settled_before, task)?;
     Ok(lines)
 }
 
 /// Of one that goes on to its items.
-fn by_source(
+fn lines_by_source(
     alloc: Global,
     plan: &Plan,
     settled: &[Settled<'_>],
@@ -115,11 +116,11 @@ fn by_source(
     requires task { task < length plan.now.dag.tasks }
     requires before { IfSome before (λ run. settled_before.now ≡ run.now.tasks) }
     ensures { IfOk result (λ lines. lines.items
-        ≡ ruled_of plan.now.dag settled.now task Verdict.Run
+        ≡ ruled_text_of plan.now.dag settled.now task Verdict.Run
         ∷ (past_sentences plan.now.dag (option_map (λ run. run.now) before.entry) task
         ++ source_sentences plan.now.dag settled.now cause (task_of plan.now.dag task).expand)) }
 {
-    let mut lines = by_past(alloc, plan, settled, before, settled_before, task)?;
+    let mut lines = lines_by_past(alloc, plan, settled, before, settled_before, task)?;
     add_source(alloc, &mut lines, plan, settled, cause, task)?;
     Ok(lines)
 }
@@ -140,17 +141,24 @@ pub(crate) fn decided_lines(
         (option_map (λ run. run.now) before.entry) task cause) }
 {
     match cause {
-        StateCause::NotFollowed => by_branches(alloc, plan, settled, task),
-        StateCause::BranchIsBlocked => by_blocked_branches(alloc, plan, settled, task),
-        StateCause::UpstreamIsBlocked => by_blocked_tasks(alloc, plan, settled, task),
-        StateCause::RuleSkips => by_rule(alloc, plan, settled, task, Verdict::Skip),
-        StateCause::RuleFails => by_rule(alloc, plan, settled, task, Verdict::UpstreamFailed),
-        StateCause::PastHasNotPassed => by_past(alloc, plan, settled, before, settled_before, task),
+        StateCause::NotFollowed => lines_by_branches(alloc, plan, settled, task),
+        StateCause::BranchIsBlocked => lines_by_blocked_branches(alloc, plan, settled, task),
+        StateCause::UpstreamIsBlocked => lines_by_blocked_tasks(alloc, plan, settled, task),
+        StateCause::RuleSkips => lines_by_rule(alloc, plan, settled, task, Verdict::Skip),
+        StateCause::RuleFails => lines_by_rule(alloc, plan, settled, task, Verdict::UpstreamFailed),
+        StateCause::PastHasNotPassed => lines_by_past(
+            alloc,
+            plan,
+            settled,
+            before,
+            settled_before,
+            task,
+        ),
         StateCause::Waits
         | StateCause::ItemsAreMissing
         | StateCause::HasNoItems
         | StateCause::Runs(_) => {
-            by_source(alloc, plan, settled, before, settled_before, task, cause)
+            lines_by_source(alloc, plan, settled, before, settled_before, task, cause)
         }
     }
 }

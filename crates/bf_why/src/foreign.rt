@@ -2,41 +2,41 @@
 ghost use Rattle.std.specs.Prelude.{◌≡◌, ◌++◌, ◌∷◌, [], IfOk, OnOk, codes};
 ghost use Rattle.std.specs.Char.{is_ascii_digit};
 ghost use Rattle.bf_reason.specs.Letters.{letter_for};
-ghost use Rattle.bf_why.specs.Why.{foreign, would_be_of, would_run_of};
+ghost use Rattle.bf_why.specs.Why.{foreign, would_be_text_of, would_run_text_of};
 
 use bf_reason::{Settled, StateCause, letter_by};
 use bf_value::{OutOfMemory, Text};
-use bf_wording::{add_all, add_text, one_line, plural};
+use bf_wording::{add_lines, add_moved_line, count_text, one_line};
 use std::alloc::Global;
 
-fn would_run(alloc: Global, is_expanded: bool, count: usize) -> Result<Text, OutOfMemory>
-    ensures { IfOk result (λ text. text ≡ would_run_of is_expanded count) }
+fn would_run_text(alloc: Global, is_expanded: bool, count: usize) -> Result<Text, OutOfMemory>
+    ensures { IfOk result (λ text. text ≡ would_run_text_of is_expanded count) }
 {
     if is_expanded {
-        let instances = plural(alloc, count as u64, "instance")?;
+        let instances = count_text(alloc, count as u64, "instance")?;
         let text = format!(in alloc; "By this graph it would have run, with {instances}:")?;
         Ok(Text::new(text))
     } else {
-        Text::copied(alloc, "By this graph it would have run, as one instance:")
+        Text::copy_of(alloc, "By this graph it would have run, as one instance:")
     }
 }
 
 /// What the graph makes of a task for this cause.
-fn would_be(alloc: Global, is_expanded: bool, cause: StateCause) -> Result<Text, OutOfMemory>
-    ensures { IfOk result (λ text. text ≡ would_be_of is_expanded cause) }
+fn would_be_text(alloc: Global, is_expanded: bool, cause: StateCause) -> Result<Text, OutOfMemory>
+    ensures { IfOk result (λ text. text ≡ would_be_text_of is_expanded cause) }
 {
     match cause {
         StateCause::NotFollowed | StateCause::RuleSkips | StateCause::HasNoItems => {
-            Text::copied(alloc, "By this graph it would be skipped:")
+            Text::copy_of(alloc, "By this graph it would be skipped:")
         }
         StateCause::RuleFails | StateCause::ItemsAreMissing => {
-            Text::copied(alloc, "By this graph it would be upstream_failed:")
+            Text::copy_of(alloc, "By this graph it would be upstream_failed:")
         }
-        StateCause::Runs(count) => would_run(alloc, is_expanded, count),
+        StateCause::Runs(count) => would_run_text(alloc, is_expanded, count),
         StateCause::Waits
         | StateCause::BranchIsBlocked
         | StateCause::UpstreamIsBlocked
-        | StateCause::PastHasNotPassed => Text::copied(
+        | StateCause::PastHasNotPassed => Text::copy_of(
             alloc,
             "By this graph it would be no_status:",
         ),
@@ -57,11 +57,11 @@ fn foreign_lines(
 ) -> Result<Vec<Text>, OutOfMemory>
     ensures { IfOk result (λ lines. lines.items
         ≡ codes "What the report has doesn't follow from this graph."
-        ∷ would_be_of is_expanded cause ∷ []) }
+        ∷ would_be_text_of is_expanded cause ∷ []) }
 {
-    let first = Text::copied(alloc, "What the report has doesn't follow from this graph.")?;
+    let first = Text::copy_of(alloc, "What the report has doesn't follow from this graph.")?;
     let mut lines = one_line(alloc, first)?;
-    add_text(&mut lines, would_be(alloc, is_expanded, cause)?)?;
+    add_moved_line(&mut lines, would_be_text(alloc, is_expanded, cause)?)?;
     Ok(lines)
 }
 
@@ -77,7 +77,7 @@ pub(crate) fn add_foreign(
         ++ foreign is_expanded cause told.now) }
 {
     if is_foreign(is_expanded, cause, told) {
-        add_all(lines, foreign_lines(alloc, is_expanded, cause)?)
+        add_lines(lines, foreign_lines(alloc, is_expanded, cause)?)
     } else {
         Ok(())
     }

@@ -2,7 +2,7 @@
 ghost use Rattle.std.specs.Prelude.{◌≡◌, IfOk, option_copied, slice_get};
 ghost use Rattle.bf_why.specs.Decided.{id_of};
 ghost use Rattle.bf_reason.specs.Settled.{results_of, value_among};
-ghost use Rattle.bf_xcom.specs.Pulls.{pushed_alone_in};
+ghost use Rattle.bf_xcom.specs.Pulls.{only_pushed_value_in};
 
 use bf_plan::Dag;
 use bf_reason::Settled;
@@ -21,7 +21,7 @@ pub fn id_at(dag: &Dag, task: u32) -> &str
 }
 
 fn pushed_alone(results: &[TaskResult]) -> Option<&Xval>
-    ensures { option_copied result ≡ pushed_alone_in results.now }
+    ensures { option_copied result ≡ only_pushed_value_in results.now }
 {
     match results {
         [first, ..] => first.outcome.pushed(),
@@ -30,9 +30,9 @@ fn pushed_alone(results: &[TaskResult]) -> Option<&Xval>
 }
 
 /// What the first instance of a task pushed.
-pub fn pushed_by<'a>(settled: &'a [Settled<'_>], task: u32) -> Option<&'a Xval>
+pub fn first_pushed_by<'a>(settled: &'a [Settled<'_>], task: u32) -> Option<&'a Xval>
     ensures { option_copied result
-        ≡ pushed_alone_in (results_of (value_among settled.entry.now task)) }
+        ≡ only_pushed_value_in (results_of (value_among settled.entry.now task)) }
 {
     match settled.get(task as usize) {
         Some(settled) => pushed_alone(settled.results()),

@@ -12,7 +12,7 @@ use bf_value::{OutOfMemory, Text};
 use std::alloc::Global;
 
 /// By the run before, of which these are the tasks.
-fn by_run(
+fn sentence_by_run(
     alloc: Global,
     before: &RunReport,
     settled: &[Settled<'_>],
@@ -38,8 +38,8 @@ fn past_sentence(
         ≡ past_sentence_of (option_map (λ run. run.now) before.entry) task) }
 {
     match before {
-        Some(before) => by_run(alloc, before, settled, task),
-        None => Text::copied(alloc, "It depends on its past, and this is the first run."),
+        Some(before) => sentence_by_run(alloc, before, settled, task),
+        None => Text::copy_of(alloc, "It depends on its past, and this is the first run."),
     }
 }
 

@@ -1,7 +1,7 @@
 //! What the rule of a task says, in a sentence.
 ghost use Rattle.std.specs.Prelude.{◌≡◌, ◌<◌, IfOk, length};
 ghost use Rattle.bf_core.specs.Terms.{task_of};
-ghost use Rattle.bf_why.specs.Decided.{over_text_of, rule_sentence_of, ruled_of};
+ghost use Rattle.bf_why.specs.Decided.{over_instances_text_of, rule_sentence_of, ruled_text_of};
 ghost use Rattle.bf_rule.specs.Verdicts.{total_of};
 
 use crate::counted::counts_text;
@@ -10,7 +10,7 @@ use bf_plan::Plan;
 use bf_reason::{Settled, counts_of_upstreams};
 use bf_rule::{Counts, Verdict};
 use bf_value::{OutOfMemory, Text};
-use bf_wording::plural;
+use bf_wording::count_text;
 use std::alloc::Global;
 
 /// How many instances are counted.
@@ -25,10 +25,10 @@ fn total(counts: &Counts) -> u64
         + u64::from(counts.unfinished)
 }
 
-fn over_text(alloc: Global, counts: &Counts) -> Result<Text, OutOfMemory>
-    ensures { IfOk result (λ text. text ≡ over_text_of counts.now) }
+fn over_instances_text(alloc: Global, counts: &Counts) -> Result<Text, OutOfMemory>
+    ensures { IfOk result (λ text. text ≡ over_instances_text_of counts.now) }
 {
-    let over = plural(alloc, total(counts), "upstream instance")?;
+    let over = count_text(alloc, total(counts), "upstream instance")?;
     let counts = counts_text(alloc, counts)?;
     Ok(Text::new(format!(in alloc; "{over} ({counts})")?))
 }
@@ -46,7 +46,7 @@ fn rule_sentence(
     let dag = plan.dag();
     let decided = dag.task(task);
     let counts = counts_of_upstreams(settled, decided.upstreams.as_slice());
-    let over = over_text(alloc, &counts)?;
+    let over = over_instances_text(alloc, &counts)?;
     let since = since_text(alloc, dag, settled, task, verdict)?;
     let (rule, says) = (rule_text(decided.rule), verdict_text(verdict));
     let text = format!(in alloc; "Its rule {rule}, over {over}, says {says}, {since}.")?;
@@ -54,7 +54,7 @@ fn rule_sentence(
 }
 
 /// What the rule of a task says, over the upstreams that it has.
-pub(crate) fn ruled(
+pub(crate) fn ruled_text(
     alloc: Global,
     plan: &Plan,
     settled: &[Settled<'_>],
@@ -62,10 +62,10 @@ pub(crate) fn ruled(
     verdict: Verdict,
 ) -> Result<Text, OutOfMemory>
     requires { task < length plan.now.dag.tasks }
-    ensures { IfOk result (λ text. text ≡ ruled_of plan.now.dag settled.now task verdict) }
+    ensures { IfOk result (λ text. text ≡ ruled_text_of plan.now.dag settled.now task verdict) }
 {
     if plan.dag().task(task).upstreams.len() == 0 {
-        Text::copied(alloc, "It has no upstream tasks, so no rule holds it back.")
+        Text::copy_of(alloc, "It has no upstream tasks, so no rule holds it back.")
     } else {
         rule_sentence(alloc, plan, settled, task, verdict)
     }

@@ -12,7 +12,7 @@ use bf_reason::{Settled, counts_at};
 use bf_report::TaskReport;
 use bf_rule::{Rule, Verdict};
 use bf_value::{OutOfMemory, Text};
-use bf_wording::{listed, number};
+use bf_wording::{name_list, text_of_number};
 use std::alloc::Global;
 
 /// Why a rule says so: in words, or by the upstreams with an instance in these states.
@@ -99,11 +99,11 @@ fn ground_of(rule: Rule, verdict: Verdict) -> Ground
     }
 }
 
-fn shared_name(alloc: Global, id: &str, count: u32, all: usize) -> Result<Text, OutOfMemory>
+fn name_with_share(alloc: Global, id: &str, count: u32, all: usize) -> Result<Text, OutOfMemory>
     ensures { IfOk result (λ text. text ≡ shared id.now count all) }
 {
-    let count = number(alloc, u64::from(count))?;
-    let all = number(alloc, all as u64)?;
+    let count = text_of_number(alloc, u64::from(count))?;
+    let all = text_of_number(alloc, all as u64)?;
     Ok(Text::new(format!(in alloc; "{id} ({count} of {all})")?))
 }
 
@@ -111,8 +111,8 @@ fn name_of_task(alloc: Global, id: &str, count: u32, task: &TaskReport) -> Resul
     ensures { IfOk result (λ text. text ≡ with_share id.now count (Some task.now)) }
 {
     match task {
-        TaskReport::Mapped(instances) => shared_name(alloc, id, count, instances.len()),
-        _ => Text::copied(alloc, id),
+        TaskReport::Mapped(instances) => name_with_share(alloc, id, count, instances.len()),
+        _ => Text::copy_of(alloc, id),
     }
 }
 
@@ -127,8 +127,8 @@ fn name_of(
         ≡ with_share id.now count (option_map (λ t. t.now) task.entry)) }
 {
     match task {
-        Some(task) => name_of_task(alloc, id, count, task.told()),
-        None => Text::copied(alloc, id),
+        Some(task) => name_of_task(alloc, id, count, task.task_report()),
+        None => Text::copy_of(alloc, id),
     }
 }
 
@@ -183,7 +183,7 @@ fn because_of(
 {
     let upstreams = dag.task(task).upstreams.as_slice();
     let names = names_in(alloc, dag, settled, upstreams, states)?;
-    let names = listed(alloc, names.as_slice())?;
+    let names = name_list(alloc, names.as_slice())?;
     Ok(Text::new(format!(in alloc; "because of {names}")?))
 }
 
@@ -201,7 +201,7 @@ pub(crate) fn since_text(
         (since (task_of dag.now task).rule verdict)) }
 {
     match ground_of(dag.task(task).rule, verdict) {
-        Ground::Words(words) => Text::copied(alloc, words),
+        Ground::Words(words) => Text::copy_of(alloc, words),
         Ground::States(states) => because_of(alloc, dag, settled, task, states),
     }
 }

@@ -10,10 +10,10 @@ use crate::looking::id_at;
 use bf_plan::Plan;
 use bf_reason::{Settled, StateCause, is_expanded};
 use bf_value::{OutOfMemory, Text};
-use bf_wording::plural;
+use bf_wording::count_text;
 use std::alloc::Global;
 
-fn no_list(alloc: Global, source: Option<&Settled<'_>>) -> Result<Text, OutOfMemory>
+fn no_list_text(alloc: Global, source: Option<&Settled<'_>>) -> Result<Text, OutOfMemory>
     ensures { (each : Bool) → IfOk result (λ text.
         text ≡ items_text_of each
         (option_map (λ t. t.now) source.entry) StateCause.ItemsAreMissing) }
@@ -22,15 +22,15 @@ fn no_list(alloc: Global, source: Option<&Settled<'_>>) -> Result<Text, OutOfMem
     Ok(Text::new(format!(in alloc; ", which pushed no list: it {came}.")?))
 }
 
-fn counted_items(alloc: Global, each: bool, count: usize) -> Result<Text, OutOfMemory>
+fn counted_items_text(alloc: Global, each: bool, count: usize) -> Result<Text, OutOfMemory>
     ensures { (source : Option TaskReport) → IfOk result (λ text.
         text ≡ items_text_of each source (StateCause.Runs count)) }
 {
     if each {
-        let values = plural(alloc, count as u64, "value")?;
+        let values = count_text(alloc, count as u64, "value")?;
         return Ok(Text::new(format!(in alloc; ": {values} that its instances pushed.")?));
     }
-    let items = plural(alloc, count as u64, "item")?;
+    let items = count_text(alloc, count as u64, "item")?;
     Ok(Text::new(format!(in alloc; ": {items} of the list that it pushed.")?))
 }
 
@@ -45,10 +45,10 @@ fn items_text(
         ≡ items_text_of each (option_map (λ t. t.now) source.entry) cause) }
 {
     match cause {
-        StateCause::ItemsAreMissing => no_list(alloc, source),
-        StateCause::Runs(count) => counted_items(alloc, each, count),
-        _ if each => Text::copied(alloc, ", whose instances pushed nothing."),
-        _ => Text::copied(alloc, ", which pushed an empty list."),
+        StateCause::ItemsAreMissing => no_list_text(alloc, source),
+        StateCause::Runs(count) => counted_items_text(alloc, each, count),
+        _ if each => Text::copy_of(alloc, ", whose instances pushed nothing."),
+        _ => Text::copy_of(alloc, ", which pushed an empty list."),
     }
 }
 

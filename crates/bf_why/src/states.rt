@@ -1,6 +1,6 @@
 //! States of instances.
 ghost use Rattle.std.specs.Prelude.{◌≡◌, ◌≤◌, ◌+◌, if◌then◌else◌};
-ghost use Rattle.bf_why.specs.Since.{count_of, has_of};
+ghost use Rattle.bf_why.specs.Since.{count_of, has_instance_of};
 ghost use Rattle.bf_rule.specs.Verdicts.{total_of};
 
 use bf_reason::{Settled, counts_at};
@@ -57,8 +57,8 @@ impl States {
 }
 
 /// Whether an instance of a task is in one of these states.
-pub fn has_in(settled: &[Settled<'_>], states: States, task: u32) -> bool
-    ensures { result ≡ has_of settled.now states task }
+pub fn has_instance_in(settled: &[Settled<'_>], states: States, task: u32) -> bool
+    ensures { result ≡ has_instance_of settled.now states task }
 {
     let counts = counts_at(settled, task);
     states.count_in(&counts) > 0

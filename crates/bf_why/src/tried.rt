@@ -8,7 +8,7 @@ ghost use Rattle.bf_try.specs.Grades.{gives_items_in, is_source};
 use bf_plan::{Dag, Plan, Task};
 use bf_reason::is_expanded;
 use bf_value::{OutOfMemory, Text};
-use bf_wording::{add, add_if, number, one_line};
+use bf_wording::{add_line, add_line_if, one_line, text_of_number};
 use bf_xcom::{Outcome, TaskResult};
 use std::alloc::Global;
 
@@ -24,8 +24,8 @@ const NOT_TOLD: &str =
 fn later_text(alloc: Global, tries: u32) -> Result<Text, OutOfMemory>
     ensures { IfOk result (λ text. text ≡ later_text_of tries) }
 {
-    let before = number(alloc, u64::from(tries.saturating_sub(1)))?;
-    let tries = number(alloc, u64::from(tries))?;
+    let before = text_of_number(alloc, u64::from(tries.saturating_sub(1)))?;
+    let tries = text_of_number(alloc, u64::from(tries))?;
     let text = format!(in alloc; "Its try {tries} succeeded, behind {before} that failed.")?;
     Ok(Text::new(text))
 }
@@ -34,7 +34,7 @@ fn succeeded_text(alloc: Global, tries: u32) -> Result<Text, OutOfMemory>
     ensures { IfOk result (λ text. text ≡ succeeded_text_of tries) }
 {
     if tries == 1 {
-        Text::copied(alloc, "Its first try succeeded.")
+        Text::copy_of(alloc, "Its first try succeeded.")
     } else {
         later_text(alloc, tries)
     }
@@ -43,7 +43,7 @@ fn succeeded_text(alloc: Global, tries: u32) -> Result<Text, OutOfMemory>
 fn skipped_text(alloc: Global, tries: u32) -> Result<Text, OutOfMemory>
     ensures { IfOk result (λ text. text ≡ skipped_text_of tries) }
 {
-    let tries = number(alloc, u64::from(tries))?;
+    let tries = text_of_number(alloc, u64::from(tries))?;
     let text = format!(in alloc; "Its try {tries} exited with 99, which skips it.")?;
     Ok(Text::new(text))
 }
@@ -52,17 +52,17 @@ fn all_failed_text(alloc: Global, tries: u32) -> Result<Text, OutOfMemory>
     ensures { IfOk result (λ text. text ≡ all_failed_text_of tries) }
 {
     if tries == 1 {
-        return Text::copied(alloc, "Its one try failed.");
+        return Text::copy_of(alloc, "Its one try failed.");
     }
-    let tries = number(alloc, u64::from(tries))?;
+    let tries = text_of_number(alloc, u64::from(tries))?;
     Ok(Text::new(format!(in alloc; "All its {tries} tries failed.")?))
 }
 
 fn not_allowed_text(alloc: Global, tries: u32, most: u32) -> Result<Text, OutOfMemory>
     ensures { IfOk result (λ text. text ≡ not_allowed_text_of tries most) }
 {
-    let tries = number(alloc, u64::from(tries))?;
-    let most = number(alloc, u64::from(most))?;
+    let tries = text_of_number(alloc, u64::from(tries))?;
+    let most = text_of_number(alloc, u64::from(most))?;
     let text = format!(in alloc; "Its try {tries} failed, and this graph allows {most}.")?;
     Ok(Text::new(text))
 }
@@ -112,9 +112,9 @@ fn add_failings(
 ) -> Result<(), OutOfMemory>
     ensures { OnOk result (lines.new.items ≡ lines.old.items ++ failings dag.now task) }
 {
-    add_if(alloc, lines, dag.is_branch(task), BRANCH_FAILS)?;
-    add_if(alloc, lines, gives_items(dag, task), SOURCE_FAILS)?;
-    add(alloc, lines, NOT_TOLD)?;
+    add_line_if(alloc, lines, dag.is_branch(task), BRANCH_FAILS)?;
+    add_line_if(alloc, lines, gives_items(dag, task), SOURCE_FAILS)?;
+    add_line(alloc, lines, NOT_TOLD)?;
     Ok(())
 }
 

@@ -2,14 +2,14 @@
 ghost use Rattle.std.specs.Prelude.{◌≡◌, ◌<◌, ◌==◌, ◌∷◌, ◌++◌, [], IfOk, OnOk, Some, codes, if◌then◌else◌, length};
 ghost use Rattle.std.specs.List.{flat_map};
 ghost use Rattle.bf_core.specs.Deciding.{branch_is, is_blocked_in};
-ghost use Rattle.bf_why.specs.Decided.{branch_sentence_of, branch_where, branches_sentence_of, have_no_status_of, id_of, upstreams_sentence_of};
+ghost use Rattle.bf_why.specs.Decided.{branch_sentence_of, branch_where, blocked_branches_sentence_of, have_no_status_of, id_of, blocked_upstreams_sentence_of};
 ghost use Rattle.bf_reason.specs.Settled.{value_among};
 
-use crate::looking::{id_at, pushed_by};
+use crate::looking::{first_pushed_by, id_at};
 use bf_plan::Plan;
-use bf_reason::{Settled, is_blocked, is_blocked_branch, skips};
+use bf_reason::{Settled, is_blocked, is_blocked_branch, is_skipping_branch};
 use bf_value::{OutOfMemory, Text};
-use bf_wording::{add_if, listed, value_text};
+use bf_wording::{add_line_if, name_list, value_text};
 use std::alloc::Global;
 
 /// How many characters of a value stand in a sentence.
@@ -24,7 +24,7 @@ fn branch_sentence(
     ensures { IfOk result (λ text. text ≡ branch_sentence_of plan.now.dag settled.now branch) }
 {
     let id = id_at(plan.dag(), branch);
-    let value = value_text(alloc, pushed_by(settled, branch), MOST_CHARACTERS)?;
+    let value = value_text(alloc, first_pushed_by(settled, branch), MOST_CHARACTERS)?;
     let text = format!(in alloc;
         "The branch {id} succeeded and doesn't follow it: it pushed {value}."
     )?;
@@ -44,7 +44,7 @@ fn add_branch(
     ensures { OnOk result (lines.new.items ≡ lines.old.items
         ++ branch_where plan.now.dag settled.now task upstream) }
 {
-    if skips(plan, settled, upstream, task) {
+    if is_skipping_branch(plan, settled, upstream, task) {
         lines.push(branch_sentence(alloc, plan, settled, upstream)?)?;
     }
     Ok(())
@@ -69,7 +69,7 @@ pub(crate) fn branch_sentences(
     Ok(lines)
 }
 
-fn add_id(
+fn add_id_if(
     alloc: Global,
     ids: &mut Vec<Text>,
     plan: &Plan,
@@ -79,7 +79,7 @@ fn add_id(
     ensures { OnOk result (ids.new.items ≡ ids.old.items
         ++ (if holds then id_of plan.now.dag task ∷ [] else [])) }
 {
-    add_if(alloc, ids, holds, id_at(plan.dag(), task))
+    add_line_if(alloc, ids, holds, id_at(plan.dag(), task))
 }
 
 fn is_blocked_branch_of(plan: &Plan, settled: &[Settled<'_>], upstream: u32) -> bool
@@ -90,7 +90,7 @@ fn is_blocked_branch_of(plan: &Plan, settled: &[Settled<'_>], upstream: u32) -> 
 }
 
 /// The ids of the branches among these that are blocked.
-pub(crate) fn blocked_branches(
+pub(crate) fn blocked_branch_ids(
     alloc: Global,
     plan: &Plan,
     settled: &[Settled<'_>],
@@ -104,13 +104,13 @@ pub(crate) fn blocked_branches(
     let mut ids = Vec::new(alloc);
     for upstream in upstreams {
         let holds = is_blocked_branch_of(plan, settled, *upstream);
-        add_id(alloc, &mut ids, plan, *upstream, holds)?;
+        add_id_if(alloc, &mut ids, plan, *upstream, holds)?;
     }
     Ok(ids)
 }
 
 /// The ids of those among these that are blocked.
-pub(crate) fn blocked_tasks(
+pub(crate) fn blocked_task_ids(
     alloc: Global,
     plan: &Plan,
     settled: &[Settled<'_>],
@@ -123,12 +123,12 @@ pub(crate) fn blocked_tasks(
     let mut ids = Vec::new(alloc);
     for upstream in upstreams {
         let holds = is_blocked(settled, *upstream);
-        add_id(alloc, &mut ids, plan, *upstream, holds)?;
+        add_id_if(alloc, &mut ids, plan, *upstream, holds)?;
     }
     Ok(ids)
 }
 
-fn have(count: usize) -> &'static str
+fn has_no_status_words(count: usize) -> &'static str
     ensures { result.now ≡ (if count == 1 then codes " has no status." else codes
         " have no status.") }
 {
@@ -139,32 +139,32 @@ fn have(count: usize) -> &'static str
     }
 }
 
-fn branches(count: usize) -> &'static str
+fn branch_word(count: usize) -> &'static str
     ensures { result.now ≡ (if count == 1 then codes "branch " else codes "branches ") }
 {
     if count == 1 { "branch " } else { "branches " }
 }
 
 /// That these have no status, as the end of a sentence.
-pub fn no_status(alloc: Global, names: &[Text]) -> Result<Text, OutOfMemory>
+pub fn no_status_text(alloc: Global, names: &[Text]) -> Result<Text, OutOfMemory>
     ensures { IfOk result (λ text. text ≡ have_no_status_of names.now) }
 {
-    let listed = listed(alloc, names)?;
-    let have = have(names.len());
+    let listed = name_list(alloc, names)?;
+    let have = has_no_status_words(names.len());
     Ok(Text::new(format!(in alloc; "{listed}{have}")?))
 }
 
-pub(crate) fn branches_sentence(alloc: Global, names: &[Text]) -> Result<Text, OutOfMemory>
-    ensures { IfOk result (λ text. text ≡ branches_sentence_of names.now) }
+pub(crate) fn blocked_branches_sentence(alloc: Global, names: &[Text]) -> Result<Text, OutOfMemory>
+    ensures { IfOk result (λ text. text ≡ blocked_branches_sentence_of names.now) }
 {
-    let branches = branches(names.len());
-    let rest = no_status(alloc, names)?;
+    let branches = branch_word(names.len());
+    let rest = no_status_text(alloc, names)?;
     Ok(Text::new(format!(in alloc; "Directly upstream, the {branches}{rest}")?))
 }
 
-pub(crate) fn upstreams_sentence(alloc: Global, names: &[Text]) -> Result<Text, OutOfMemory>
-    ensures { IfOk result (λ text. text ≡ upstreams_sentence_of names.now) }
+pub(crate) fn blocked_upstreams_sentence(alloc: Global, names: &[Text]) -> Result<Text, OutOfMemory>
+    ensures { IfOk result (λ text. text ≡ blocked_upstreams_sentence_of names.now) }
 {
-    let rest = no_status(alloc, names)?;
+    let rest = no_status_text(alloc, names)?;
     Ok(Text::new(format!(in alloc; "Directly upstream, {rest}")?))
 }

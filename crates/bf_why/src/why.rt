@@ -13,19 +13,19 @@ use bf_reason::{Settled, StateCause, is_expanded};
 use bf_report::{RunReport, TaskReport};
 use bf_rule::Counts;
 use bf_value::{OutOfMemory, Text};
-use bf_wording::{add_all, one_line, plural};
+use bf_wording::{add_lines, count_text, one_line};
 use bf_xcom::TaskResult;
 use std::alloc::Global;
 
 fn came_line(alloc: Global, instances: usize, counts: &Counts) -> Result<Text, OutOfMemory>
     ensures { IfOk result (λ text. text ≡ came_line_of instances counts.now) }
 {
-    let instances = plural(alloc, instances as u64, "instance")?;
+    let instances = count_text(alloc, instances as u64, "instance")?;
     let counts = counts_text(alloc, counts)?;
     Ok(Text::new(format!(in alloc; "It came to {instances}: {counts}.")?))
 }
 
-fn one_of(
+fn tried_lines_at(
     alloc: Global,
     plan: &Plan,
     task: u32,
@@ -57,7 +57,7 @@ fn came_to_lines(
         ≡ came_to_lines_of plan.now.dag task results.now index) }
 {
     match index {
-        Some(index) => one_of(alloc, plan, task, results, index),
+        Some(index) => tried_lines_at(alloc, plan, task, results, index),
         None => one_line(alloc, came_line(alloc, results.len(), counts)?),
     }
 }
@@ -73,7 +73,7 @@ fn ended_lines(
     requires { task < length plan.now.dag.tasks }
     ensures { IfOk result (λ lines. lines.items ≡ ended_of plan.now.dag task told.now index) }
 {
-    match (told.told(), told.results()) {
+    match (told.task_report(), told.results()) {
         (TaskReport::Ran(_), [ended, ..]) => tried_lines(alloc, plan, task, ended),
         (TaskReport::Mapped(_), results) => {
             came_to_lines(alloc, plan, task, results, &told.counts(), index)
@@ -109,7 +109,7 @@ pub fn why_lines(
     let mut lines = Vec::new(alloc);
     add_foreign(alloc, &mut lines, is_expanded_in(plan, task), cause, told)?;
     let decided = decided_lines(alloc, plan, settled, before, settled_before, task, cause)?;
-    add_all(&mut lines, decided)?;
-    add_all(&mut lines, ended_lines(alloc, plan, task, told, index)?)?;
+    add_lines(&mut lines, decided)?;
+    add_lines(&mut lines, ended_lines(alloc, plan, task, told, index)?)?;
     Ok(lines)
 }

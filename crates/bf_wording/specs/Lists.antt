@@ -14,10 +14,10 @@ joined [] = []
 joined (first ∷ rest) = first ++ behind_first rest
 
 -- of two or more above so many just these, and how many more there are
-abbrev pub shortened_of : ℕ → List (List ℕ) → List (List ℕ)
-shortened_of most names =
+abbrev pub shortened_names_of : ℕ → List (List ℕ) → List (List ℕ)
+shortened_names_of most names =
     if nat_lt (most + 1) (length names) then take most names
     ++ (number_text (length names - most) ++ codes " more") ∷ [] else names
 
-abbrev pub listed_of : ℕ → List (List ℕ) → List ℕ
-listed_of most names = joined (shortened_of most names)
+abbrev pub name_list_of : ℕ → List (List ℕ) → List ℕ
+name_list_of most names = joined (shortened_names_of most names)

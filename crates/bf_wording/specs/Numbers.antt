@@ -13,5 +13,5 @@ abbrev pub number_text : ℕ → List ℕ
 number_text n = with_commas (decimal n)
 
 -- as `1 run` and `2 runs`
-abbrev pub plural_of : ℕ → List ℕ → List ℕ
-plural_of n one = number_text n ++ 32 ∷ (one ++ (if n == 1 then [] else codes "s"))
+abbrev pub count_text_of : ℕ → List ℕ → List ℕ
+count_text_of n one = number_text n ++ 32 ∷ (one ++ (if n == 1 then [] else codes "s"))

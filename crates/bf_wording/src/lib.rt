@@ -10,8 +10,8 @@ mod numbers;
 mod text;
 mod value;
 
-pub use lines::{add, add_all, add_if, add_text, one_line};
-pub use lists::{push_listed, push_separated};
-pub use numbers::{push_number, push_plural};
-pub use text::{listed, number, plural};
+pub use lines::{add_line, add_line_if, add_lines, add_moved_line, one_line};
+pub use lists::{push_name_list, push_separated};
+pub use numbers::{push_count, push_number};
+pub use text::{count_text, name_list, text_of_number};
 pub use value::value_text;

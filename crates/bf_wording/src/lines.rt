@@ -14,15 +14,15 @@ pub fn one_line(alloc: Global, line: Text) -> Result<Vec<Text>, OutOfMemory>
 }
 
 /// Adds a line.
-pub fn add(alloc: Global, lines: &mut Vec<Text>, line: &str) -> Result<(), OutOfMemory>
+pub fn add_line(alloc: Global, lines: &mut Vec<Text>, line: &str) -> Result<(), OutOfMemory>
     ensures { OnOk result (lines.new.items ≡ lines.old.items ++ line.now ∷ []) }
 {
-    lines.push(Text::copied(alloc, line)?)?;
+    lines.push(Text::copy_of(alloc, line)?)?;
     Ok(())
 }
 
 /// Adds a line, which is moved in.
-pub fn add_text(lines: &mut Vec<Text>, line: Text) -> Result<(), OutOfMemory>
+pub fn add_moved_line(lines: &mut Vec<Text>, line: Text) -> Result<(), OutOfMemory>
     ensures { OnOk result (lines.new.items ≡ lines.old.items ++ line ∷ []) }
 {
     lines.push(line)?;
@@ -30,7 +30,7 @@ pub fn add_text(lines: &mut Vec<Text>, line: Text) -> Result<(), OutOfMemory>
 }
 
 /// Adds lines behind the others.
-pub fn add_all(lines: &mut Vec<Text>, more: Vec<Text>) -> Result<(), OutOfMemory>
+pub fn add_lines(lines: &mut Vec<Text>, more: Vec<Text>) -> Result<(), OutOfMemory>
     ensures { OnOk result (lines.new.items ≡ lines.old.items ++ more.items) }
 {
     for line in more {
@@ -40,7 +40,7 @@ pub fn add_all(lines: &mut Vec<Text>, more: Vec<Text>) -> Result<(), OutOfMemory
 }
 
 /// Adds a line, where something holds.
-pub fn add_if(
+pub fn add_line_if(
     alloc: Global,
     lines: &mut Vec<Text>,
     holds: bool,
@@ -50,7 +50,7 @@ pub fn add_if(
         ++ (if holds then line.now ∷ [] else [])) }
 {
     if holds {
-        add(alloc, lines, line)
+        add_line(alloc, lines, line)
     } else {
         Ok(())
     }

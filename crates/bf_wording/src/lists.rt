@@ -1,7 +1,7 @@
 //! Lists of names.
 ghost use Rattle.std.specs.Prelude.{◌≡◌, ◌++◌, ◌==◌, IfOk, OnOk, codes, if◌then◌else◌, string_bytes};
 ghost use Rattle.std.specs.List.{join_by};
-ghost use Rattle.bf_wording.specs.Lists.{joined, listed_of, shortened_of};
+ghost use Rattle.bf_wording.specs.Lists.{joined, name_list_of, shortened_names_of};
 ghost use Rattle.bf_wording.specs.Numbers.{number_text};
 
 use crate::numbers::push_number;
@@ -29,7 +29,7 @@ fn push_joined(text: &mut String, names: &[Text]) -> Result<(), OutOfMemory>
     Ok(())
 }
 
-fn copies(alloc: Global, names: &[Text]) -> Result<Vec<Text>, OutOfMemory>
+fn copies_of_names(alloc: Global, names: &[Text]) -> Result<Vec<Text>, OutOfMemory>
     ensures { IfOk result (λ copies. copies.items ≡ names.now) }
 {
     let mut copies = Vec::with_capacity(alloc, names.len())?;
@@ -40,7 +40,7 @@ fn copies(alloc: Global, names: &[Text]) -> Result<Vec<Text>, OutOfMemory>
 }
 
 /// How many more there are.
-fn more(alloc: Global, count: usize) -> Result<Text, OutOfMemory>
+fn more_text(alloc: Global, count: usize) -> Result<Text, OutOfMemory>
     ensures { IfOk result (λ text. text ≡ number_text count ++ codes " more") }
 {
     let mut text = String::new(alloc);
@@ -49,28 +49,28 @@ fn more(alloc: Global, count: usize) -> Result<Text, OutOfMemory>
     Ok(Text::new(text))
 }
 
-fn shortened(alloc: Global, names: &[Text], most: usize) -> Result<Vec<Text>, OutOfMemory>
-    ensures { IfOk result (λ kept. kept.items ≡ shortened_of most names.now) }
+fn shortened_names(alloc: Global, names: &[Text], most: usize) -> Result<Vec<Text>, OutOfMemory>
+    ensures { IfOk result (λ kept. kept.items ≡ shortened_names_of most names.now) }
 {
     if names.len() <= most || names.len() - most == 1 {
-        return copies(alloc, names);
+        return copies_of_names(alloc, names);
     }
-    let mut kept = copies(alloc, &names[..most])?;
-    kept.push(more(alloc, names.len() - most)?)?;
+    let mut kept = copies_of_names(alloc, &names[..most])?;
+    kept.push(more_text(alloc, names.len() - most)?)?;
     Ok(kept)
 }
 
 /// Adds names, as `a`, `a and b`, `a, b and c`; of more than one above `most` only so many, and how many more there are.
-pub fn push_listed(
+pub fn push_name_list(
     alloc: Global,
     text: &mut String,
     names: &[Text],
     most: usize,
 ) -> Result<(), OutOfMemory>
     ensures { OnOk result (string_bytes text.new ≡ string_bytes text.old
-        ++ listed_of most names.now) }
+        ++ name_list_of most names.now) }
 {
-    let kept = shortened(alloc, names, most)?;
+    let kept = shortened_names(alloc, names, most)?;
     push_joined(text, kept.as_slice())
 }
 

@@ -1,6 +1,6 @@
 //! Numbers, each added behind a text.
 ghost use Rattle.std.specs.Prelude.{◌≡◌, ◌++◌, ◌<◌, All, OnOk, length, string_bytes};
-ghost use Rattle.bf_wording.specs.Numbers.{number_text, plural_of, with_commas};
+ghost use Rattle.bf_wording.specs.Numbers.{number_text, count_text_of, with_commas};
 
 use bf_value::OutOfMemory;
 use std::alloc::Global;
@@ -31,14 +31,14 @@ pub fn push_number(alloc: Global, text: &mut String, number: u64) -> Result<(), 
 }
 
 /// Adds how many there are of what one is called so, as `1 run` and `2 runs`.
-pub fn push_plural(
+pub fn push_count(
     alloc: Global,
     text: &mut String,
     number: u64,
     one: &str,
 ) -> Result<(), OutOfMemory>
     ensures { OnOk result (string_bytes text.new
-        ≡ string_bytes text.old ++ plural_of number one.now) }
+        ≡ string_bytes text.old ++ count_text_of number one.now) }
 {
     push_number(alloc, text, number)?;
     text.push_str(" ")?;

@@ -1,10 +1,10 @@
 //! Pieces of sentences.
 ghost use Rattle.std.specs.Prelude.{◌≡◌, IfOk};
-ghost use Rattle.bf_wording.specs.Lists.{listed_of};
-ghost use Rattle.bf_wording.specs.Numbers.{number_text, plural_of};
+ghost use Rattle.bf_wording.specs.Lists.{name_list_of};
+ghost use Rattle.bf_wording.specs.Numbers.{number_text, count_text_of};
 
-use crate::lists::push_listed;
-use crate::numbers::{push_number, push_plural};
+use crate::lists::push_name_list;
+use crate::numbers::{push_count, push_number};
 use bf_value::{OutOfMemory, Text};
 use std::alloc::Global;
 
@@ -12,7 +12,7 @@ use std::alloc::Global;
 const MOST_NAMES: usize = 5;
 
 /// A number, as 8,192,000.
-pub fn number(alloc: Global, count: u64) -> Result<Text, OutOfMemory>
+pub fn text_of_number(alloc: Global, count: u64) -> Result<Text, OutOfMemory>
     ensures { IfOk result (λ text. text ≡ number_text count) }
 {
     let mut text = String::new(alloc);
@@ -21,19 +21,19 @@ pub fn number(alloc: Global, count: u64) -> Result<Text, OutOfMemory>
 }
 
 /// How many there are of what one is called so.
-pub fn plural(alloc: Global, count: u64, one: &str) -> Result<Text, OutOfMemory>
-    ensures { IfOk result (λ text. text ≡ plural_of count one.now) }
+pub fn count_text(alloc: Global, count: u64, one: &str) -> Result<Text, OutOfMemory>
+    ensures { IfOk result (λ text. text ≡ count_text_of count one.now) }
 {
     let mut text = String::new(alloc);
-    push_plural(alloc, &mut text, count, one)?;
+    push_count(alloc, &mut text, count, one)?;
     Ok(Text::new(text))
 }
 
 /// Names, as `a, b and c`.
-pub fn listed(alloc: Global, names: &[Text]) -> Result<Text, OutOfMemory>
-    ensures { IfOk result (λ text. text ≡ listed_of 5 names.now) }
+pub fn name_list(alloc: Global, names: &[Text]) -> Result<Text, OutOfMemory>
+    ensures { IfOk result (λ text. text ≡ name_list_of 5 names.now) }
 {
     let mut text = String::new(alloc);
-    push_listed(alloc, &mut text, names, MOST_NAMES)?;
+    push_name_list(alloc, &mut text, names, MOST_NAMES)?;
     Ok(Text::new(text))
 }

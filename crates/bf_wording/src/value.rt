@@ -2,10 +2,10 @@
 ghost use Rattle.std.specs.Prelude.{◌≡◌, ◌++◌, IfOk, OnOk, codes, encode_utf8, length, option_copied, string_bytes};
 ghost use Rattle.std.specs.List.{flat_map};
 ghost use Rattle.std.specs.Str.{chars};
-ghost use Rattle.bf_wording.specs.Values.{cut, long_text_of, value_text_of};
+ghost use Rattle.bf_wording.specs.Values.{cut, cut_text_with_count_of, value_text_of};
 
-use crate::text::number;
-use bf_quoted::push_shown;
+use crate::text::text_of_number;
+use bf_quoted::push_shown_value;
 use bf_value::{OutOfMemory, Text, Xval, text_of};
 use std::alloc::Global;
 
@@ -31,11 +31,11 @@ fn text_of_chars(alloc: Global, shown: &[char]) -> Result<Text, OutOfMemory>
 }
 
 /// The first characters of a text, and how many it has.
-fn long_text(alloc: Global, first: &[char], count: usize) -> Result<Text, OutOfMemory>
-    ensures { IfOk result (λ text. text ≡ long_text_of first.now count) }
+fn cut_text_with_count(alloc: Global, first: &[char], count: usize) -> Result<Text, OutOfMemory>
+    ensures { IfOk result (λ text. text ≡ cut_text_with_count_of first.now count) }
 {
     let first = text_of_chars(alloc, first)?;
-    let count = number(alloc, count as u64)?;
+    let count = text_of_number(alloc, count as u64)?;
     Ok(Text::new(format!(in alloc; "{first}... ({count} characters)")?))
 }
 
@@ -45,9 +45,9 @@ fn cut_text(alloc: Global, shown: &str, most: usize) -> Result<Text, OutOfMemory
 {
     let all = chars_of(alloc, shown)?;
     if all.len() <= most {
-        return Text::copied(alloc, shown);
+        return Text::copy_of(alloc, shown);
     }
-    long_text(alloc, &all[..most], all.len())
+    cut_text_with_count(alloc, &all[..most], all.len())
 }
 
 /// A value as JSON text that a terminal shows, or `nothing`.
@@ -55,10 +55,10 @@ pub fn value_text(alloc: Global, value: Option<&Xval>, most: usize) -> Result<Te
     ensures { IfOk result (λ text. text ≡ value_text_of most (option_copied value.entry)) }
 {
     let Some(value) = value else {
-        return Text::copied(alloc, "nothing");
+        return Text::copy_of(alloc, "nothing");
     };
     let json = text_of(alloc, value)?;
     let mut shown = String::new(alloc);
-    push_shown(&mut shown, json.as_str())?;
+    push_shown_value(&mut shown, json.as_str())?;
     cut_text(alloc, shown.as_str(), most)
 }

@@ -47,22 +47,22 @@ fn context_word(
     })
 }
 
-fn pulled(given: &Given, place: u32) -> Option<&Xval>
+fn pulled_at(given: &Given, place: u32) -> Option<&Xval>
     ensures { option_map (λ v. v.now) result ≡ slice_index_or given.now.pulled place None }
 {
     match given.pulled.get(place as usize) {
-        Some(pulled) => pulled.get(),
+        Some(pulled_at) => pulled_at.get(),
         None => None,
     }
 }
 
-fn item(given: &Given) -> Option<&Xval>
+fn item_of(given: &Given) -> Option<&Xval>
     ensures { option_map (λ v. v.now) result ≡ given.now.item }
 {
     given.item.as_ref()
 }
 
-fn word(
+fn word_for_try(
     alloc: Global,
     word: &Word,
     context: &JobContext<'_>,
@@ -73,8 +73,8 @@ fn word(
     match word {
         Word::Text(text) => Ok(String::from_str(alloc, text.as_str())?),
         Word::Context(variable) => context_word(alloc, *variable, context),
-        Word::Pull(place) => pushed_word(alloc, pulled(given, *place)),
-        Word::Item => pushed_word(alloc, item(given)),
+        Word::Pull(place) => pushed_word(alloc, pulled_at(given, *place)),
+        Word::Item => pushed_word(alloc, item_of(given)),
     }
 }
 
@@ -92,7 +92,7 @@ pub fn words(
 {
     let mut words = Vec::with_capacity(alloc, command.len())?;
     for part in command {
-        words.push(word(alloc, part, context, given)?)?;
+        words.push(word_for_try(alloc, part, context, given)?)?;
     }
     Ok(words)
 }

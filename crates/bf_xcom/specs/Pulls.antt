@@ -18,30 +18,30 @@ pushed_by (Success value) = value
 pushed_by Failed = None
 pushed_by Skipped = None
 
-abbrev pub pushed_of : TaskResult → Option Xval
-pushed_of result = pushed_by result.outcome
+abbrev pub pushed_value_of : TaskResult → Option Xval
+pushed_value_of result = pushed_by result.outcome
 
 -- the value that an unmapped task pushed
-abbrev pub pushed_alone_in : List TaskResult → Option Xval
-pushed_alone_in [] = None
-pushed_alone_in (result ∷ rest) = pushed_of result
+abbrev pub only_pushed_value_in : List TaskResult → Option Xval
+only_pushed_value_in [] = None
+only_pushed_value_in (result ∷ rest) = pushed_value_of result
 
 -- the values that the instances of a task pushed, in index order
-abbrev pub all_pushed_in : List TaskResult → List Xval
-all_pushed_in results = filter_map pushed_of results
+abbrev pub pushed_values_in : List TaskResult → List Xval
+pushed_values_in results = filter_map pushed_value_of results
 
 -- what a pull from a task gives
 abbrev pub pull_of : Task → TaskValue → Option Xval
 pull_of source (Ran results) =
-    if is_some source.expand then Some (list_of (all_pushed_in results))
-    else pushed_alone_in results
+    if is_some source.expand then Some (list_of (pushed_values_in results))
+    else only_pushed_value_in results
 pull_of source _ = None
 
 -- what a source has for the task that is expanded over it
 abbrev pub source_values : Task → TaskValue → SourceValues
 source_values source (Ran results) =
-    if is_some source.expand then SourceValues.Each (map pushed_of results)
-    else SourceValues.Pushed (pushed_alone_in results)
+    if is_some source.expand then SourceValues.Each (map pushed_value_of results)
+    else SourceValues.Pushed (only_pushed_value_in results)
 source_values source _ = SourceValues.Absent
 
 -- the items of an expansion, which may be missing

@@ -1,33 +1,33 @@
 //! Pulls (Airflow's "XComs").
 ghost use Rattle.std.specs.Prelude.{◌≡◌, IfOk, option_copied};
-ghost use Rattle.bf_xcom.specs.Pulls.{all_pushed_in, pull_of, pushed_of, pushed_alone_in};
+ghost use Rattle.bf_xcom.specs.Pulls.{pushed_values_in, pull_of, pushed_value_of, only_pushed_value_in};
 
 use crate::values::{TaskResult, TaskValue};
 use bf_plan::Task;
 use bf_value::{OutOfMemory, Values, Xval, copy_option};
 use std::alloc::Global;
 
-fn pushed(instance: &TaskResult) -> Option<&Xval>
-    ensures { option_copied result ≡ pushed_of instance.now }
+fn pushed_value(instance: &TaskResult) -> Option<&Xval>
+    ensures { option_copied result ≡ pushed_value_of instance.now }
 {
     instance.outcome.pushed()
 }
 
-fn pushed_alone(alloc: Global, instances: &[TaskResult]) -> Result<Option<Xval>, OutOfMemory>
-    ensures { IfOk result (λ value. value ≡ pushed_alone_in instances.now) }
+fn only_pushed_value(alloc: Global, instances: &[TaskResult]) -> Result<Option<Xval>, OutOfMemory>
+    ensures { IfOk result (λ value. value ≡ only_pushed_value_in instances.now) }
 {
     match instances {
         [] => Ok(None),
-        [instance, ..] => copy_option(alloc, pushed(instance)),
+        [instance, ..] => copy_option(alloc, pushed_value(instance)),
     }
 }
 
-fn all_pushed(alloc: Global, instances: &[TaskResult]) -> Result<Vec<Xval>, OutOfMemory>
-    ensures { IfOk result (λ values. values.items ≡ all_pushed_in instances.now) }
+fn pushed_values(alloc: Global, instances: &[TaskResult]) -> Result<Vec<Xval>, OutOfMemory>
+    ensures { IfOk result (λ values. values.items ≡ pushed_values_in instances.now) }
 {
     let mut values = Vec::new(alloc);
     for instance in instances {
-        if let Some(value) = pushed(instance) {
+        if let Some(value) = pushed_value(instance) {
             values.push(value.copy(alloc)?)?;
         }
     }
@@ -44,8 +44,8 @@ pub fn pull(alloc: Global, source: &Task, value: &TaskValue) -> Result<Option<Xv
         return Ok(None);
     };
     if source.expand.is_none() {
-        return pushed_alone(alloc, instances.as_slice());
+        return only_pushed_value(alloc, instances.as_slice());
     }
-    let values = all_pushed(alloc, instances.as_slice())?;
+    let values = pushed_values(alloc, instances.as_slice())?;
     Ok(Some(Xval::List(Values::new(values))))
 }

@@ -11,5 +11,5 @@ mod laws;
 mod offset;
 mod zone;
 
-pub use laws::{offset_form, one_zone};
+pub use laws::{offsets_are_read_as_written, zone_of_text_is_unique};
 pub use zone::{MOST_FILE_BYTES, Zone, ZoneFault};

@@ -6,7 +6,7 @@ ghost use Rattle.bf_zone.specs.Offsets.{offset_of, digits, clock_seconds};
 use jiff::tz::Offset;
 
 /// A number of two digits.
-fn number(tens: u8, units: u8) -> Option<u32>
+fn number_of_two_digits(tens: u8, units: u8) -> Option<u32>
     ensures value { result ≡ digits tens units }
     ensures bound { IfSome result (λ n. n < 100) }
 {
@@ -17,7 +17,7 @@ fn number(tens: u8, units: u8) -> Option<u32>
 }
 
 /// The seconds of hours up to 23 and minutes up to 59.
-fn seconds(hours: u32, minutes: u32) -> Option<u32>
+fn seconds_of_hours_and_minutes(hours: u32, minutes: u32) -> Option<u32>
     requires hours { hours < 100 }
     requires minutes { minutes < 100 }
     ensures value { result ≡ clock_seconds (Some hours) (Some minutes) }
@@ -30,7 +30,7 @@ fn seconds(hours: u32, minutes: u32) -> Option<u32>
 }
 
 /// The offset of less than a day.
-fn offset_by(seconds: i32) -> Offset
+fn offset_of_seconds(seconds: i32) -> Offset
     requires { IsWithin 86_400 seconds }
     ensures { result.seconds ≡ seconds }
 {
@@ -47,10 +47,13 @@ pub(crate) fn offset_in(text: &[u8]) -> Option<Offset>
     let [sign, a, b, b':', c, d] = text else {
         return None;
     };
-    let seconds = seconds(number(*a, *b)?, number(*c, *d)?)?;
+    let seconds = seconds_of_hours_and_minutes(
+        number_of_two_digits(*a, *b)?,
+        number_of_two_digits(*c, *d)?,
+    )?;
     match sign {
-        b'+' => Some(offset_by(seconds as i32)),
-        b'-' => Some(offset_by(-(seconds as i32))),
+        b'+' => Some(offset_of_seconds(seconds as i32)),
+        b'-' => Some(offset_of_seconds(-(seconds as i32))),
         _ => None,
     }
 }

@@ -33,7 +33,7 @@ pub enum ZoneFault {
 }
 
 /// The zone of a zone file.
-fn table_in(alloc: Global, bytes: &[u8]) -> Result<Zone, ZoneFault>
+fn zone_of_file(alloc: Global, bytes: &[u8]) -> Result<Zone, ZoneFault>
     ensures { IsZoneRead file_asked (Some bytes.now) result }
 {
     if bytes.len() > MOST_FILE_BYTES {
@@ -47,7 +47,7 @@ fn table_in(alloc: Global, bytes: &[u8]) -> Result<Zone, ZoneFault>
 }
 
 /// The zone of an offset or of a rule.
-fn rule_in(text: &str) -> Option<TimeZone<'static>>
+fn zone_of_offset_or_rule(text: &str) -> Option<TimeZone<'static>>
     ensures some { IfSome result (λ tz. (file : Option (List ℕ)) →
         IsZone (offset_or_rule (offset_of text.now) text.now) file (plain_zone tz)) }
     ensures none { IfNone result ((file : Option (List ℕ)) (z : TimeZone) →
@@ -69,10 +69,10 @@ impl Zone {
         match text {
             "UTC" => Ok(Zone::Rule(TimeZone::UTC)),
             "file" => match file {
-                Some(bytes) => table_in(alloc, bytes),
+                Some(bytes) => zone_of_file(alloc, bytes),
                 None => Err(ZoneFault::Bad),
             },
-            _ => match rule_in(text) {
+            _ => match zone_of_offset_or_rule(text) {
                 Some(zone) => Ok(Zone::Rule(zone)),
                 None => Err(ZoneFault::Bad),
             },

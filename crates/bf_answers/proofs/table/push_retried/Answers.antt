@@ -15,5 +15,5 @@ loop-attempt-preserved c =
     record {
       from_one = omega (arith, from_one);
       no_more = omega (arith, low, from_one);
-      added = c.in_ok-push_failed.ensures ∙ ap (λ t. t ++ entry_line (f attempt)) c.loop-attempt.invariant.added ∙ try_more (string_bytes c.args.text.now) f attempt from_one;
+      added = c.in_ok-push_failed_entry.ensures ∙ ap (λ t. t ++ entry_line (f attempt)) c.loop-attempt.invariant.added ∙ try_more (string_bytes c.args.text.now) f attempt from_one;
     }

@@ -13,5 +13,5 @@ pub loop-one-preserved : goal.loop-one-preserved
 loop-one-preserved c =
     let asked = c.args.asked.now in
     let i = c.loop-one.one-index in
-    subst (λ (ss : List Seed). MeanSeeds (take (i + 1) asked) ss) (sym c.in_ok-add.ensures)
+    subst (λ (ss : List Seed). MeanSeeds (take (i + 1) asked) ss) (sym c.in_ok-add_seed.ensures)
     (one_more asked i c.one-item.result c.loop-one.seeds.items c.in_ok-seed.seed c.loop-one-test.true c.one-item.is c.loop-one.invariant c.in_ok-seed.ensures.means)

@@ -17,8 +17,8 @@ returns c = λ report here earlier.
     let letters = letters_from c.args.plan.now.dag report c.args.number 0 c.args.settled.now in
     let words = flat_map word_behind c.args.settled.now in
     c.in_ok-push_str.ensures.bytes
-    ∙ ap (λ t. t ++ 10 ∷ []) c.in_ok-push_words.ensures
+    ∙ ap (λ t. t ++ 10 ∷ []) c.in_ok-push_instances_words.ensures
     ∙ ap (λ t. (t ++ words) ++ 10 ∷ []) (c.in_ok-push_letters.ensures report here earlier)
-    ∙ ap (λ t. ((t ++ letters) ++ words) ++ 10 ∷ []) c.in_ok-push_run.ensures
+    ∙ ap (λ t. ((t ++ letters) ++ words) ++ 10 ∷ []) c.in_ok-push_interval_and_state.ensures
     ∙ row_in_pieces text start end state letters c.args.settled.now
     ∙ ap (λ tasks. text ++ (join_with_byte 32 (start ∷ end ∷ state ∷ letters_from c.args.plan.now.dag report c.args.number 0 tasks ∷ filter_map instances_word tasks) ++ 10 ∷ [])) c.requires.tasks

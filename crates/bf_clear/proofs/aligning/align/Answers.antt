@@ -7,8 +7,8 @@ use Rattle.bf_clear.specs.Aligning.{AreAligned, AreApart}
 use Rattle.bf_clear.proofs.Aligned.{aligned_by_ids, tasks_apart}
 use Rattle.bf_clear.proofs.aligning.align.Goals as goal
 
-pub runs_by-requires-clause-apart : goal.runs_by-requires-clause-apart
-runs_by-requires-clause-apart c =
+pub runs_over-requires-clause-apart : goal.runs_over-requires-clause-apart
+runs_over-requires-clause-apart c =
     let ids = c.args.report.tasks in
     let tasks = c.args.plan.now.dag.tasks in
     let all : c.as_slice-tasks.result.now ≡ tasks = c.as_slice-tasks.ensures ∙ ap (λ (dag : Dag). dag.tasks) c.dag-dag.ensures.dag in

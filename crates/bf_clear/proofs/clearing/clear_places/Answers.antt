@@ -3,8 +3,8 @@ use Rattle.bf_clear.specs.Matching.{is_report_in}
 use Rattle.bf_clear.proofs.Within.{matches_within}
 use Rattle.bf_clear.proofs.clearing.clear_places.Goals as goal
 
-pub kept_beside-requires : goal.kept_beside-requires
-kept_beside-requires c =
+pub clear_places_within-requires : goal.clear_places_within-requires
+clear_places_within-requires c =
     let dag = c.args.plan.now.dag in
     let intervals = c.args.runs.now in
     let report = c.args.report in

@@ -5,7 +5,7 @@ use Rattle.bf_command_line.proofs.Rows.{first_rows}
 use Rattle.bf_command_line.proofs.Words.{unlisted}
 use Rattle.bf_command_line.proofs.choice.color_asked.Goals as goal
 
-pub returns-in_ok-no_color_word-in-Some-clause-err : goal.returns-in_ok-no_color_word-in-Some-clause-err
-returns-in_ok-no_color_word-in-Some-clause-err c =
-    unlisted color_words (first_of (codes "color") (rows_of (found_of c.args.matches.now))) c.in-Some.field-0.now c.in_ok-no_color_word-in-Some.field-0
+pub returns-in_ok-unknown_color_error-in-Some-clause-err : goal.returns-in_ok-unknown_color_error-in-Some-clause-err
+returns-in_ok-unknown_color_error-in-Some-clause-err c =
+    unlisted color_words (first_of (codes "color") (rows_of (found_of c.args.matches.now))) c.in-Some.field-0.now c.in_ok-unknown_color_error-in-Some.field-0
     (sym (first_rows (found_of c.args.matches.now) (codes "color")) ∙ (sym c.get_str.ensures ∙ ap (option_map (λ s. s.now)) c.in-Some.is)) (search rules) (search rules)

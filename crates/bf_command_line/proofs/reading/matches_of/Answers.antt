@@ -13,9 +13,9 @@ simple_and_free = refl
 pub returns-clause-ok : goal.returns-clause-ok
 returns-clause-ok c =
     let words : List Text = map string_bytes c.args.words.now in
-    IfOk-weaker c.try_get_matches_from.result _ _ (λ m h. (h (ap is_simple c.in_ok-backfill.ensures ∙ simple)).1 ∙ ap (λ (app : App). subcommand_of app words) c.in_ok-backfill.ensures) c.try_get_matches_from.ensures.matches
+    IfOk-weaker c.try_get_matches_from.result _ _ (λ m h. (h (ap is_simple c.in_ok-backfill_command.ensures ∙ simple)).1 ∙ ap (λ (app : App). subcommand_of app words) c.in_ok-backfill_command.ensures) c.try_get_matches_from.ensures.matches
 
 pub returns-clause-err : goal.returns-clause-err
 returns-clause-err c =
     let words : List Text = map string_bytes c.args.words.now in
-    subst (λ (app : App). FailsBy (fault_of app words) c.try_get_matches_from.result) c.in_ok-backfill.ensures (c.try_get_matches_from.ensures.kinds (ap is_simple_and_free c.in_ok-backfill.ensures ∙ simple_and_free))
+    subst (λ (app : App). FailsBy (fault_of app words) c.try_get_matches_from.result) c.in_ok-backfill_command.ensures (c.try_get_matches_from.ensures.kinds (ap is_simple_and_free c.in_ok-backfill_command.ensures ∙ simple_and_free))

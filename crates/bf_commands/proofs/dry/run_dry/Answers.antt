@@ -1,4 +1,4 @@
-use Rattle.bf_commands.specs.OverTable.{is_alone_in}
+use Rattle.bf_commands.specs.OverTable.{is_single_threaded_in}
 use Rattle.bf_commands.proofs.Faults.{dry_range, dry_stop_in, dry_table, range_leaves, reported_in, table_leaves}
 use Rattle.bf_commands.proofs.FromKept.{nothing_fits}
 use Rattle.bf_planning.proofs.Results.{handed_on}
@@ -9,7 +9,7 @@ use Rattle.bf_commands.proofs.dry.run_dry.Goals as goal
 pub returns-in_err-table-clause-fault : goal.returns-in_err-table-clause-fault
 returns-in_err-table-clause-fault g c =
     handed_on _ _ c.from_residual-in_err-table.ensures.1
-    (dry_table c.args.graph.now _ c.args.table.now _ (is_alone_in c.args.crew.now.progress) _ c.in_ok-timed.ensures.plan _ c.in_err-table.ensures.fault)
+    (dry_table c.args.graph.now _ c.args.table.now _ (is_single_threaded_in c.args.crew.now.progress) _ c.in_ok-timed.ensures.plan _ c.in_err-table.ensures.fault)
 
 pub returns-in_err-table-clause-left : goal.returns-in_err-table-clause-left
 returns-in_err-table-clause-left g c = handed_on _ _ c.from_residual-in_err-table.ensures.1 (table_leaves _ _ _ c.args.table.now _ c.in_err-table.ensures.fault)
@@ -20,7 +20,7 @@ runs-requires g c = (c.in_ok-timed.ensures.zone.draft.schedule, c.in_ok-timed.en
 pub returns-in_err-runs-clause-fault : goal.returns-in_err-runs-clause-fault
 returns-in_err-runs-clause-fault g c =
     handed_on _ _ c.from_residual-in_err-runs.ensures.1
-    (dry_range c.args.graph.now _ c.args.table.now _ (is_alone_in c.args.crew.now.progress) _ c.in_ok-table.ensures.ok _ (c.in_err-runs.ensures.fault c.args.graph.now _ c.in_ok-timed.ensures.zone))
+    (dry_range c.args.graph.now _ c.args.table.now _ (is_single_threaded_in c.args.crew.now.progress) _ c.in_ok-table.ensures.ok _ (c.in_err-runs.ensures.fault c.args.graph.now _ c.in_ok-timed.ensures.zone))
 
 pub returns-in_err-runs-clause-left : goal.returns-in_err-runs-clause-left
 returns-in_err-runs-clause-left g c =
@@ -38,6 +38,6 @@ returns g c =
     let is = reported_in c.in_ok-timed.ensures.plan listing c.in_ok-table.ensures.ok in
     record {
       ok = sends_as is _ _ _ c.write_backfill.ensures.ok;
-      fault = dry_stop_in c.args.graph.now _ c.args.table.now _ (is_alone_in c.args.crew.now.progress) _ c.in_ok-table.ensures.ok _ listing _ c.write_backfill.ensures.stop;
+      fault = dry_stop_in c.args.graph.now _ c.args.table.now _ (is_single_threaded_in c.args.crew.now.progress) _ c.in_ok-table.ensures.ok _ listing _ c.write_backfill.ensures.stop;
       left = leaves_as is _ _ _ _ c.write_backfill.ensures.left;
     }

@@ -9,29 +9,29 @@ use Rattle.bf_commands.proofs.Recording.{stop_since}
 use Rattle.bf_commands.proofs.Results.{leaves_as, sends_as}
 use Rattle.bf_commands.proofs.journaled.record_backfill.Goals as goal
 
-pub write_recorded-requires-sync-K : goal.write_recorded-requires-sync-K
-write_recorded-requires-sync-K g c κs held = record { shared = (since (record { mir = static; lft = _ }) _ c.type_bounds.sync-K).shared }
+pub record_and_write_report-requires-sync-K : goal.record_and_write_report-requires-sync-K
+record_and_write_report-requires-sync-K g c κs held = record { shared = (since (record { mir = static; lft = _ }) _ c.type_bounds.sync-K).shared }
 
-pub write_recorded-requires-after_bounds : goal.write_recorded-requires-after_bounds
-write_recorded-requires-after_bounds g c κs held =
-    since_fits c.tries_of.new.journal.retry_failed c.args.backfill.now.plan.now.dag (map.get c.in-Ok.tries) (g.K.KeptTries.kept c.args.backfill.now.before.now) (c.in-Ok.ensures {u = tt}).fit c.requires
+pub record_and_write_report-requires-after_bounds : goal.record_and_write_report-requires-after_bounds
+record_and_write_report-requires-after_bounds g c κs held =
+    since_fits c.read_and_mend_journal.new.journal.retry_failed c.args.backfill.now.plan.now.dag (map.get c.in-Ok.tries) (g.K.KeptTries.kept c.args.backfill.now.before.now) (c.in-Ok.ensures {u = tt}).fit c.requires
 
 pub returns-clause-ok : goal.returns-clause-ok
 returns-clause-ok g c =
-    let ok : _ = rw c.tries_of.ensures.retry_failed at c.write_recorded.ensures.ok in
+    let ok : _ = rw c.read_and_mend_journal.ensures.retry_failed at c.record_and_write_report.ensures.ok in
     sends_as (λ text success is. record { tries = map.get c.in-Ok.tries; has_tries = (c.in-Ok.ensures {u = tt}).tries; reported = is }) _ _ _ ok
 
 pub returns-clause-fault : goal.returns-clause-fault
 returns-clause-fault g c =
-    let stop : _ = rw (c.tries_of.ensures.retry_failed, c.tries_of.ensures.stop_after) at c.write_recorded.ensures.stop in
-    IfErr-weaker c.write_recorded.result.report _ _
+    let stop : _ = rw (c.read_and_mend_journal.ensures.retry_failed, c.read_and_mend_journal.ensures.stop_after) at c.record_and_write_report.ensures.stop in
+    IfErr-weaker c.record_and_write_report.result.report _ _
     (stop_since c.args.journal.stop_after (g.K.KeptTries.kept c.args.backfill.now.before.now) c.args.journal.retry_failed c.args.journal.held.items c.args.backfill.now.cleared.now (launching_of c.args.crew.now.launching).logs c.args.backfill.now.plan.now.dag c.args.backfill.now.runs.now
     (map.get c.in-Ok.tries) (c.in-Ok.ensures {u = tt}).tries)
     stop
 
 pub returns-clause-left : goal.returns-clause-left
 returns-clause-left g c =
-    let left : _ = rw c.tries_of.ensures.retry_failed at c.write_recorded.ensures.left in
+    let left : _ = rw c.read_and_mend_journal.ensures.retry_failed at c.record_and_write_report.ensures.left in
     leaves_as (λ text success is. record { tries = map.get c.in-Ok.tries; has_tries = (c.in-Ok.ensures {u = tt}).tries; reported = is }) _ _ _ _ left
 
 pub returns-in-Err-clause-journal : goal.returns-in-Err-clause-journal
@@ -39,4 +39,4 @@ returns-in-Err-clause-journal g c = kept_in_part _ _ _ _ _ _ _ (c.in-Err.ensures
 
 pub returns-clause-journal : goal.returns-clause-journal
 returns-clause-journal g c =
-    kept_over _ _ _ c.args.backfill.now.cleared.now _ _ _ _ _ c.write_recorded.ensures.written.0 (c.in-Ok.ensures {u = tt}).made_whole c.write_recorded.ensures.written.1
+    kept_over _ _ _ c.args.backfill.now.cleared.now _ _ _ _ _ c.record_and_write_report.ensures.written.0 (c.in-Ok.ensures {u = tt}).made_whole c.record_and_write_report.ensures.written.1

@@ -1,13 +1,13 @@
 use Rattle.bf_commands.proofs.run.record_programs.Goals as goal
 
 pub returns-clause-ok : goal.returns-clause-ok
-returns-clause-ok g c = rw (c.at-crew.ensures.machine, c.at-crew.ensures.launching, c.deref.ensures.value) at c.record_backfill.ensures.ok
+returns-clause-ok g c = rw (c.with_clocks-crew.ensures.machine, c.with_clocks-crew.ensures.launching, c.deref.ensures.value) at c.record_backfill.ensures.ok
 
 pub returns-clause-fault : goal.returns-clause-fault
-returns-clause-fault g c = rw c.at-crew.ensures.launching at c.record_backfill.ensures.fault
+returns-clause-fault g c = rw c.with_clocks-crew.ensures.launching at c.record_backfill.ensures.fault
 
 pub returns-clause-left : goal.returns-clause-left
-returns-clause-left g c = rw (c.at-crew.ensures.machine, c.at-crew.ensures.launching, c.deref.ensures.value) at c.record_backfill.ensures.left
+returns-clause-left g c = rw (c.with_clocks-crew.ensures.machine, c.with_clocks-crew.ensures.launching, c.deref.ensures.value) at c.record_backfill.ensures.left
 
 pub returns-clause-journal : goal.returns-clause-journal
-returns-clause-journal g c = rw (c.at-crew.ensures.machine, c.at-crew.ensures.launching, c.deref.ensures.value) at c.record_backfill.ensures.journal
+returns-clause-journal g c = rw (c.with_clocks-crew.ensures.machine, c.with_clocks-crew.ensures.launching, c.deref.ensures.value) at c.record_backfill.ensures.journal

@@ -17,9 +17,9 @@ returns g c =
     let launching = launching_of c.args.crew.now.launching in
     let dated = c.in_ok-dated.ensures in
     let is = reported_by dated.plan dated.listing {launching = launching} {may_hear = g.RT.Starter.may_hear c.args.crew.now.rt.now} dated.clocks in
-    let ok : _ = rw (c.at-crew.ensures.machine, c.at-crew.ensures.launching, c.deref.ensures.value) at c.write_backfill.ensures.ok in
-    let stop : _ = rw (c.at-crew.ensures.machine, c.at-crew.ensures.launching, c.deref.ensures.value) at c.write_backfill.ensures.stop in
-    let left : _ = rw (c.at-crew.ensures.machine, c.at-crew.ensures.launching, c.deref.ensures.value) at c.write_backfill.ensures.left in
+    let ok : _ = rw (c.with_clocks-crew.ensures.machine, c.with_clocks-crew.ensures.launching, c.deref.ensures.value) at c.write_backfill.ensures.ok in
+    let stop : _ = rw (c.with_clocks-crew.ensures.machine, c.with_clocks-crew.ensures.launching, c.deref.ensures.value) at c.write_backfill.ensures.stop in
+    let left : _ = rw (c.with_clocks-crew.ensures.machine, c.with_clocks-crew.ensures.launching, c.deref.ensures.value) at c.write_backfill.ensures.left in
     record {
       ok = sends_as is _ _ _ ok;
       fault = run_stop_in launching (g.RT.Starter.may_lose c.args.crew.now.rt.now) c.args.graph.now _ _ _ dated.plan _ dated.listing (clocks_in c.in_ok-dated.dated) dated.clocks _ stop;

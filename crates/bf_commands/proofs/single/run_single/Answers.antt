@@ -1,5 +1,5 @@
 use Rattle.std.proofs.Common.{◌≡◌, true, refl}
-use Rattle.bf_commands.specs.OverTable.{is_alone_in}
+use Rattle.bf_commands.specs.OverTable.{is_single_threaded_in}
 use Rattle.bf_commands.proofs.Faults.{no_run_leaves, reported_at, single_moment, single_table, single_wanting_in, table_leaves}
 use Rattle.bf_commands.proofs.FromKept.{nothing_fits}
 use Rattle.bf_planning.proofs.Results.{handed_on}
@@ -31,7 +31,7 @@ pub returns : goal.returns
 returns g c =
     let in_years = c.in_ok-runs.ensures.ok in
     let is = reported_at {table = c.args.table.now} {at = c.args.at} c.in_ok-timed.ensures.plan c.in_ok-table.ensures.ok in_years.0 in_years.1 in
-    let alone : is_alone_in c.of-crew.result.progress ≡ true = rw (c.of-crew.ensures.progress) refl in
+    let alone : is_single_threaded_in c.new-crew.result.progress ≡ true = rw (c.new-crew.ensures.progress) refl in
     record {
       ok = sends_as is _ _ _ c.write_backfill.ensures.ok;
       fault = single_wanting_in c.args.graph.now _ c.args.table.now c.args.at _ alone _ c.write_backfill.ensures.stop;

@@ -17,7 +17,7 @@ loop-place-preserved c = λ rest behind.
     let sections = section_more paths dag report run task places index (get_or places index other) more rest c.loop-place-test.true
     (sym (get_or_default places index (get_or places index other) other c.loop-place-test.true)) here behind in
     subst (λ (lines : List (List ℕ)). AreClearSections paths dag report run task places lines)
-    (sym (append_assoc c.loop-place.lines.items more rest) ∙ ap (λ (ls : List (List ℕ)). ls ++ rest) (sym c.in_ok-add_all.ensures))
+    (sym (append_assoc c.loop-place.lines.items more rest) ∙ ap (λ (ls : List (List ℕ)). ls ++ rest) (sym c.in_ok-add_lines.ensures))
     (c.loop-place.invariant (more ++ rest) sections)
 
 pub returns : goal.returns

@@ -3,7 +3,7 @@ use Rattle.std.specs.List.{flat_map}
 use Rattle.bf_grid.specs.declared.failed_tasks.Failing.{Failing}
 use Rattle.bf_grid.specs.FailedTasks.{failing_of, failing_line, failing_text, further_line, id_width_of}
 use Rattle.bf_grid.specs.FoundTasks.{pair_of}
-use Rattle.bf_wording.specs.Numbers.{plural_of}
+use Rattle.bf_wording.specs.Numbers.{count_text_of}
 use Rattle.bf_grid.proofs.FoundFacts.{failing_told, first_of}
 use Rattle.bf_grid.proofs.failed_tasks.push_failing.Goals as goal
 
@@ -18,7 +18,7 @@ returns c =
     let is : found ≡ first ∷ drop 1 found = first_of found first (ap (λ xs. slice_get xs 0) (sym c.deref.ensures.value) ∙ sym c.first.ensures.value ∙ ap option_copied c.in-Some.is) in
     let turned : min (length found) 20 ≡ min 20 (length found) = omega arith in
     let few : told ≡ min 20 (length found) = c.min-told.ensures ∙ ap (λ n. min n 20) (c.len-2.ensures ∙ c.in_ok-found.found.ok.0) ∙ turned in
-    let wide : widest ≡ length (plural_of (length first.starts.items) (codes "run")) = c.in_ok-widest.ensures ∙ ap (λ n. length (plural_of n (codes "run"))) (c.len.ensures ∙ first.starts.ok.0) in
+    let wide : widest ≡ length (count_text_of (length first.starts.items) (codes "run")) = c.in_ok-widest.ensures ∙ ap (λ n. length (count_text_of n (codes "run"))) (c.len.ensures ∙ first.starts.ok.0) in
     let all : c.len-3.result ≡ length found = c.len-3.ensures ∙ c.in_ok-found.found.ok.0 in
     let lines_of : List Failing → List ℕ = λ fs. flat_map (failing_line dag (id_width_of dag (map pair_of (take told fs))) widest) (map pair_of (take told fs)) in
     let lines : c.push_lines.new.text.items ≡ (before ++ codes "\ntasks that failed themselves\n") ++ lines_of found =

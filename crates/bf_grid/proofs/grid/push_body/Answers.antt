@@ -31,4 +31,4 @@ returns c =
     ∙ ap₂ (λ n m. before ++ (left_out_line n (length all) m c.len-3.result ++ table)) how_many_runs how_many_tasks
     ∙ ap (λ n. before ++ (left_out_line (length runs) (length all) (length tasks) n ++ table)) c.len-3.ensures
     ∙ ap₂ (λ rs ts. before ++ (left_out_line (length runs) (length all) (length tasks) (length dag.tasks) ++ table_if view dag rs ts)) runs_are tasks_are in
-    subst (λ (s : List ℕ). OnOk c.push_if.result (c.push_if.new.text.items ≡ s)) whole c.push_if.ensures
+    subst (λ (s : List ℕ). OnOk c.push_table_if_runs.result (c.push_table_if_runs.new.text.items ≡ s)) whole c.push_table_if_runs.ensures

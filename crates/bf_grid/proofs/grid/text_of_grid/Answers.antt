@@ -8,6 +8,6 @@ returns c =
     let view = c.args.view.now in
     let dag = c.args.dag.now in
     let runs = c.as_slice-runs.result.now in
-    c.in_ok-push_body_if.ensures
+    c.in_ok-push_body_if_runs.ensures
     ∙ ap (λ t. t ++ body_if view dag runs) (c.in_ok-push_head.ensures ∙ ap₂ (λ t id. t ++ head_line view.colored id runs) c.new-text.ensures.items c.as_str.ensures)
     ∙ ap (λ rs. head_line view.colored dag.id rs ++ body_if view dag rs) c.as_slice-runs.ensures

@@ -5,7 +5,7 @@ use Rattle.bf_interval.proofs.Collecting.{collects_skip}
 use Rattle.bf_interval.proofs.Skipping.{date_skipped}
 use Rattle.bf_interval.proofs.Settling.{first_settled, enough_settled, first_whole, enough_whole}
 use Rattle.bf_interval.proofs.fires.first_fires.Goals as goal
-use Rattle.bf_interval.proofs.fires.first_fires.Goals.{then-has_date+in_ok-add_day, else-has_date}
+use Rattle.bf_interval.proofs.fires.first_fires.Goals.{then-has_date+in_ok-push_fires_of_day, else-has_date}
 
 pub returns-in-Some-clause-first : goal.returns-in-Some-clause-first
 returns-in-Some-clause-first c =
@@ -25,11 +25,11 @@ pub loop-day-preserved : goal.loop-day-preserved
 loop-day-preserved c =
     let next : c.loop-day.day * 1_440 + 1_440 ≡ (c.loop-day.day + 1) * 1_440 = omega arith in
     elim c.if-has_date.branch [
-      | then-has_date+in_ok-add_day w ↦ rw w.found-is (record {
-        rising = w.add_day.ensures.rising;
+      | then-has_date+in_ok-push_fires_of_day w ↦ rw w.found-is (record {
+        rising = w.push_fires_of_day.ensures.rising;
         found =
-            let P : ℕ → Type 0 = λ m. Collects c.args.spec.now (plain_zone c.args.zone.now) (c.args.from / 86_400 * 1_440) m c.args.from w.add_day.new.found.items in
-            subst P next (w.in_ok-add_day.ensures.ok _ (omega arith) c.loop-day.invariant.found);
+            let P : ℕ → Type 0 = λ m. Collects c.args.spec.now (plain_zone c.args.zone.now) (c.args.from / 86_400 * 1_440) m c.args.from w.push_fires_of_day.new.found.items in
+            subst P next (w.in_ok-push_fires_of_day.ensures.ok _ (omega arith) c.loop-day.invariant.found);
       })
       | else-has_date w ↦ rw w.found-is (record {
         rising = c.loop-day.invariant.rising;

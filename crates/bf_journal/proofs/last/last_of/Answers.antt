@@ -15,8 +15,8 @@ loop-name-init c =
       left = subst (λ (m : map.FinMap name_cmp Entry). IsLeft dag tries tries (map.get m)) (sym c.new-ledger.ensures) (none_noted dag tries);
     }
 
-pub note_before-requires : goal.note_before-requires
-note_before-requires c =
+pub note_earlier_fit-requires : goal.note_earlier_fit-requires
+note_earlier_fit-requires c =
     let try : JobName × Entry = (c.in-Some.name, c.in-Some.entry) in
     (tasks_of_rest c.args.plan.now.dag c.loop-name.tries.items c.pop.new.self.items try c.in-Some.ensures.items c.loop-name.invariant.of_tasks).0
 
@@ -28,5 +28,5 @@ loop-name-preserved c =
     let rest = c.pop.new.self.items in
     record {
       of_tasks = (tasks_of_rest dag was rest try c.in-Some.ensures.items c.loop-name.invariant.of_tasks).1;
-      left = one_noted dag c.args.tries.items was rest try (map.get c.loop-name.ledger) (map.get c.note_before.new.ledger) c.loop-name.invariant.left c.in-Some.ensures.items c.in_ok-note_before.ensures;
+      left = one_noted dag c.args.tries.items was rest try (map.get c.loop-name.ledger) (map.get c.note_earlier_fit.new.ledger) c.loop-name.invariant.left c.in-Some.ensures.items c.in_ok-note_earlier_fit.ensures;
     }

@@ -16,7 +16,7 @@ returns-in-Some-clause-some c =
     let run : Interval = c.in-Some.run'.now in
     let name : c.name-name.result ≡ done.name = c.name-name.ensures in
     let is_run : slice_get runs done.name.run ≡ Some run =
-    ap (λ (n : JobName). slice_get runs n.run) (sym name) ∙ sym c.run_of.ensures.run ∙ ap option_copied c.in-Some.is in
+    ap (λ (n : JobName). slice_get runs n.run) (sym name) ∙ sym c.interval_of_run.ensures.run ∙ ap option_copied c.in-Some.is in
     let is_task : done.name.task < length dag.tasks = search rules in
     let own : IsName c.name-name.result = (search rules, search rules) in
     let is_name : IsName done.name = subst IsName name own in
@@ -24,11 +24,11 @@ returns-in-Some-clause-some c =
     let Q : String Global → Type 0 = λ line. IsRecord dag runs done c.args.outcome.now c.args.stamp (string_bytes line) in
     let there : (line : String Global) → P line → Q line =
     λ line told. record { run = run; is_run = is_run; is_task = is_task; is_name = is_name; told = told } in
-    IfOk-weaker c.line_in.result (λ o. IfSome o P) (λ o. IfSome o Q) (some_weaker P Q there) c.line_in.ensures.some
+    IfOk-weaker c.record_line_of.result (λ o. IfSome o P) (λ o. IfSome o Q) (some_weaker P Q there) c.record_line_of.ensures.some
 
 pub returns-in-None-clause-none : goal.returns-in-None-clause-none
 returns-in-None-clause-none c run is_run is_task deep =
     let runs = c.args.runs.now in
     let none : None ≡ Some run =
-    ap option_copied (sym c.in-None.is) ∙ c.run_of.ensures.run ∙ ap (λ (n : JobName). slice_get runs n.run) c.name-name.ensures ∙ is_run in
+    ap option_copied (sym c.in-None.is) ∙ c.interval_of_run.ensures.run ∙ ap (λ (n : JobName). slice_get runs n.run) c.name-name.ensures ∙ is_run in
     absurd (cc none)

@@ -1,6 +1,6 @@
 use Rattle.std.proofs.Common.{◌≡◌, ◌+◌, ◌-◌, ◌++◌, List, ℕ, suc, length, reverse, replicate, false, IfSome, ap, subst, arith}
 use Rattle.std.proofs.lemmas.List.{length_push}
-use Rattle.bf_marks.specs.RowOrder.{order_from, order_of, is_source_in, tasks_where}
+use Rattle.bf_marks.specs.RowOrder.{order_from, order_of, has_no_upstreams_in, tasks_where}
 use Rattle.bf_marks.specs.Walk.{GoesOnBy}
 use Rattle.bf_marks.proofs.OrderFacts.{stood}
 use Rattle.bf_marks.proofs.row_order.tasks_in_order.Goals as goal
@@ -11,7 +11,7 @@ loop-alloc-init c =
     let dag = c.args.dag.now in
     let count : ℕ = length dag.tasks in
     let none : count - 0 ≡ count = omega arith in
-    rw (c.in_ok-order.ensures.items, c.in_ok-walk.ensures.standing, c.in_ok-walk.ensures.left) (ap (λ n. order_from dag n (replicate count false) (tasks_where dag (is_source_in dag))) none)
+    rw (c.in_ok-order.ensures.items, c.in_ok-walk.ensures.standing, c.in_ok-walk.ensures.left) (ap (λ n. order_from dag n (replicate count false) (tasks_where dag (has_no_upstreams_in dag))) none)
 
 pub loop-alloc-preserved : goal.loop-alloc-preserved
 loop-alloc-preserved c =

@@ -10,15 +10,15 @@ returns-in-Ok-clause-why g c = λ none two.
 
 pub returns-in-Err-clause-why : goal.returns-in-Err-clause-why
 returns-in-Err-clause-why g c = λ none two.
-    let tells : _ = rw c.in-Err.ensures.untouched at c.told.ensures.tells in
+    let tells : _ = rw c.in-Err.ensures.untouched at c.tell_fault.ensures.tells in
     (c.in-Err.fault, c.in-Err.ensures.why none, rw c.code-in-Err.ensures tells)
 
 pub returns-in-Err-clause-unshown : goal.returns-in-Err-clause-unshown
 returns-in-Err-clause-unshown g c = λ wrong three.
-    let tells : _ = rw c.in-Err.ensures.untouched at c.told.ensures.tells in
+    let tells : _ = rw c.in-Err.ensures.untouched at c.tell_fault.ensures.tells in
     (c.in-Err.fault, c.in-Err.ensures.unshown wrong, rw c.code-in-Err.ensures tells)
 
 pub returns-in-Err-clause-fault : goal.returns-in-Err-clause-fault
 returns-in-Err-clause-fault g c = λ three.
-    let tells : _ = rw c.in-Err.ensures.untouched at c.told.ensures.tells in
+    let tells : _ = rw c.in-Err.ensures.untouched at c.tell_fault.ensures.tells in
     tells_three _ _ _ c.in-Err.fault _ tells (sym c.code-in-Err.ensures ∙ three)

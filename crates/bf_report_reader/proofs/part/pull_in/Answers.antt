@@ -22,7 +22,7 @@ returns-then-not-is_id-clause-every c = λ p says.
 pub returns-in_ok-new-in-Some-2-clause-every : goal.returns-in_ok-new-in-Some-2-clause-every
 returns-in_ok-new-in-Some-2-clause-every c = λ p says.
     let (task, value) = pull_fields p c.args.text.now c.in-Some.id.now c.in-Some.value.now c.in-Some.ensures.word c.in-Some.ensures.some says in
-    let tasks = c.in_ok-copied-in-Some-2.ensures ∙ c.in-Ok.ensures.cases.0 ∙ task in
+    let tasks = c.in_ok-copy_of-in-Some-2.ensures ∙ c.in-Ok.ensures.cases.0 ∙ task in
     let values = c.in_ok-new-in-Some-2.ensures ∙ some_same (sym c.in-Some-2.is ∙ c.in_ok-value.ensures.every p.value (says.0.1, value)) in
     λ k. Some (record { task = tasks k; value = values k })
 
@@ -35,7 +35,7 @@ pub returns-in_ok-new-in-Some-2-clause-some : goal.returns-in_ok-new-in-Some-2-c
 returns-in_ok-new-in-Some-2-clause-some c =
     let read : Spells IsToldPulled pulled_word c.in-Some.value.now c.in-Some-2.value = rw c.in-Some-2.is at c.in_ok-value.ensures.some in
     let told = subst (Spells IsToldPulled pulled_word c.in-Some.value.now) (sym c.in_ok-new-in-Some-2.ensures) read in
-    let task = c.in_ok-copied-in-Some-2.ensures ∙ c.in-Ok.ensures.cases.0 in (
-      (ap is_id_in c.in_ok-copied-in-Some-2.ensures ∙ sym c.is_id.ensures ∙ c.if-not-is_id.false, told.0),
-      c.in-Some.ensures.some ∙ ap (λ (id : List ℕ). id ++ 32 ∷ c.in-Some.value.now) (sym task) ∙ ap (λ (word : List ℕ). c.in_ok-copied-in-Some-2.field-0 ++ 32 ∷ word) told.1,
+    let task = c.in_ok-copy_of-in-Some-2.ensures ∙ c.in-Ok.ensures.cases.0 in (
+      (ap is_id_in c.in_ok-copy_of-in-Some-2.ensures ∙ sym c.is_id.ensures ∙ c.if-not-is_id.false, told.0),
+      c.in-Some.ensures.some ∙ ap (λ (id : List ℕ). id ++ 32 ∷ c.in-Some.value.now) (sym task) ∙ ap (λ (word : List ℕ). c.in_ok-copy_of-in-Some-2.field-0 ++ 32 ∷ word) told.1,
     )

@@ -1,7 +1,7 @@
 use Rattle.std.proofs.Common.{◌++◌, ◌∷◌, [], ap, sym, subst, ◌≡◌, ◌+◌, ◌∙◌, arith}
 use Rattle.std.proofs.lemmas.Result.{err_from_is_err_and}
 use Rattle.bf_report.specs.Report.{report_text}
-use Rattle.bf_report_reader.specs.declared.beginning.Beginning.{Beginning}
+use Rattle.bf_report_reader.specs.declared.beginning.ReportSoFar.{ReportSoFar}
 use Rattle.bf_report_reader.specs.Beginning.{so_far, opening_text}
 use Rattle.bf_report_reader.specs.Rules.{IsShownReport}
 use Rattle.bf_report_reader.specs.Faults.{lines_in}
@@ -29,13 +29,13 @@ returns-in-End-clause-ok g c =
     let (keeps, known, reads, tallied, place, number) = c.loop-beginning.invariant in
     let ends = rw (c.in-End.is, c.line.ensures) at c.in_ok-read_line.ensures in
     reads_more _ _ _ (opening_text (so_far c.args.beginning.now)) (opening_text (so_far c.loop-beginning.beginning)) (report_text (so_far c.read_line.new.beginning)) (line_in c.read.new.self ++ 10 ∷ []) reads c.in_ok-read.ensures.line
-    (ap (λ (b : Beginning). report_text (so_far b)) ends.1 ∙ ap (λ l. opening_text (so_far c.loop-beginning.beginning) ++ (l ++ 10 ∷ [])) (sym ends.0.0))
+    (ap (λ (b : ReportSoFar). report_text (so_far b)) ends.1 ∙ ap (λ l. opening_text (so_far c.loop-beginning.beginning) ++ (l ++ 10 ∷ [])) (sym ends.0.0))
 
 pub returns-in-End-clause-rules : goal.returns-in-End-clause-rules
 returns-in-End-clause-rules g c =
     let (keeps, known, reads, tallied, place, number) = c.loop-beginning.invariant in
     let ends = rw (c.in-End.is, c.line.ensures) at c.in_ok-read_line.ensures in
-    subst (λ (b : Beginning). IsShownReport (so_far b)) (sym ends.1) (report_ruled c.loop-beginning.beginning keeps.counted keeps.small keeps.ruled ends.0.1)
+    subst (λ (b : ReportSoFar). IsShownReport (so_far b)) (sym ends.1) (report_ruled c.loop-beginning.beginning keeps.counted keeps.small keeps.ruled ends.0.1)
 
 pub returns-in_err-read-clause-tells : goal.returns-in_err-read-clause-tells
 returns-in_err-read-clause-tells g c =
@@ -49,7 +49,7 @@ returns-in-End-clause-place g c =
     let ends = rw (c.in-End.is, c.line.ensures) at c.in_ok-read_line.ensures in
     let opening = opening_text (so_far c.loop-beginning.beginning) in
     let text : report_text (so_far c.read_line.new.beginning) ≡ opening ++ (line_in c.read.new.self ++ 10 ∷ []) =
-    ap (λ (b : Beginning). report_text (so_far b)) ends.1 ∙ ap (λ l. opening ++ (l ++ 10 ∷ [])) (sym ends.0.0) in
+    ap (λ (b : ReportSoFar). report_text (so_far b)) ends.1 ∙ ap (λ l. opening ++ (l ++ 10 ∷ [])) (sym ends.0.0) in
     omega (arith, c.in_ok-read.ensures.number, place, ap lines_in text, one_line_more opening (line_in c.read.new.self) c.in_ok-read.ensures.in_line)
 
 pub returns-in-Refused-clause-tells : goal.returns-in-Refused-clause-tells

@@ -4,4 +4,4 @@ use Rattle.bf_rescan.proofs.Soonest.{all_passed}
 use Rattle.bf_rescan.proofs.moments.next_moment.Goals as goal
 
 pub returns : goal.returns
-returns c = all_passed c.args.core.now (replay_rows _ c.journal-replayed.ensures.replayed) c.loop-run.run (omega (arith, c.loop-run-test.false, c.runs-run-end.ensures.runs)) c.loop-run.soonest c.loop-run.invariant
+returns c = all_passed c.args.core.now (replay_rows _ c.journal-replayed.ensures.replayed) c.loop-run.run (omega (arith, c.loop-run-test.false, c.run_count-run-end.ensures.runs)) c.loop-run.soonest c.loop-run.invariant

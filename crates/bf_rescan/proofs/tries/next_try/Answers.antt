@@ -4,4 +4,4 @@ use Rattle.bf_rescan.proofs.Bests.{all_passed}
 use Rattle.bf_rescan.proofs.tries.next_try.Goals as goal
 
 pub returns : goal.returns
-returns c = all_passed c.args.core.now (replay_rows _ c.journal-replayed.ensures.replayed) c.loop-run.run (omega (arith, c.loop-run-test.false, c.runs-run-end.ensures.runs)) c.loop-run.best c.loop-run.invariant
+returns c = all_passed c.args.core.now (replay_rows _ c.journal-replayed.ensures.replayed) c.loop-run.run (omega (arith, c.loop-run-test.false, c.run_count-run-end.ensures.runs)) c.loop-run.best c.loop-run.invariant

@@ -29,8 +29,8 @@ walk-preserved-then-is_seen c =
       shows = c.walk.invariant.shows;
     }
 
-pub look-requires-clause-within : goal.look-requires-clause-within
-look-requires-clause-within c =
+pub visit-requires-clause-within : goal.visit-requires-clause-within
+visit-requires-clause-within c =
     let tasks : ℕ = length c.args.plan.now.dag.tasks in
     subst (λ (told : List TaskReport). length told ≤ tasks) (sym c.in_ok-window-2.ensures.shows.tasks) (few_at tasks c.args.report.now c.in_ok-window-2.window.run c.requires.tasks)
 
@@ -39,7 +39,7 @@ walk-smaller c =
     let seen = c.walk.trail.seen.items in
     let step = c.in-Some.step in
     let unseen : is_seen_in seen step.run step.task ≡ false = ap (λ rows. is_seen_in rows step.run step.task) (sym c.as_slice.ensures.value) ∙ (sym c.is_seen.ensures ∙ c.if-is_seen.false) in
-    let looks = c.in_ok-look.ensures in
+    let looks = c.in_ok-visit.ensures in
     let left : length c.walk.trail.left.items ≡ length c.pop.new.self.items + 1 = ap length c.in-Some.ensures.items ∙ length_push c.pop.new.self.items step in
     omega (arith, ap unseen_in looks.seen, one_less seen step.run step.task unseen, looks.few, left)
 
@@ -48,13 +48,13 @@ walk-preserved c =
     let seen = c.walk.trail.seen.items in
     let step = c.in-Some.step in
     let unseen : is_seen_in seen step.run step.task ≡ false = ap (λ rows. is_seen_in rows step.run step.task) (sym c.as_slice.ensures.value) ∙ (sym c.is_seen.ensures ∙ c.if-is_seen.false) in
-    let looks = c.in_ok-look.ensures in
+    let looks = c.in_ok-visit.ensures in
     let window = c.in_ok-window-2.window in
     let shows = c.in_ok-window-2.ensures.shows in
     let report = c.args.report.now in
     record {
-      goes = looked c.args.plan.now.dag report c.args.run c.args.task seen c.look.new.self.seen.items c.walk.trail.left.items c.pop.new.self.items c.look.new.self.left.items
-          c.walk.trail.found.items c.look.new.self.found.items step window.settled.items window.before.items c.in-Some.ensures.items unseen
+      goes = looked c.args.plan.now.dag report c.args.run c.args.task seen c.visit.new.self.seen.items c.walk.trail.left.items c.pop.new.self.items c.visit.new.self.left.items
+          c.walk.trail.found.items c.visit.new.self.found.items step window.settled.items window.before.items c.in-Some.ensures.items unseen
           (shows.tasks ∙ ap (tasks_in report) c.in_ok-window-2.ensures.run) (shows.before ∙ ap (tasks_before report) c.in_ok-window-2.ensures.run)
           looks.seen looks.left looks.found c.walk.invariant.goes;
       shows = shows;

@@ -8,5 +8,5 @@ use Rattle.bf_table.proofs.table_runner.entry_in_run.Goals as goal
 pub returns-in-Some : goal.returns-in-Some
 returns-in-Some c =
     let entries = c.args.entries.now in
-    c.indexed.ensures ∙ ap (λ (asked : Pattern). option_and_then (slice_get entries) (first_of_keys (tree.get pattern_cmp c.args.firsts.now) (keys_of asked))) c.of_try.ensures
+    c.find_by_index.ensures ∙ ap (λ (asked : Pattern). option_and_then (slice_get entries) (first_of_keys (tree.get pattern_cmp c.args.firsts.now) (keys_of asked))) c.of_try.ensures
     ∙ first_answers c.args.graph.now.ids c.in-Some.task c.args.id.now c.args.date c.args.name (sym c.number_of.ensures ∙ c.in-Some.is) c.requires.long entries c.args.firsts.now c.requires.index

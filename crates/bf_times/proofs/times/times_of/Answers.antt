@@ -23,5 +23,5 @@ returns-clause-ok c =
       whole = found.whole;
       tries = map.get found.tries;
       found = is_found dag c.args.runs.now bytes head found.whole (map.get found.tries) c.in_ok-found.ensures.begun c.in_ok-found.ensures.whole;
-      is = subst (λ n. IsTextOf (take n (drop (length head) bytes)) (string_bytes c.in_ok-text_of.field-0)) (ap (λ n. n - length head) count ∙ beyond found.whole (length head)) c.in_ok-text_of.ensures;
+      is = subst (λ n. IsTextOf (take n (drop (length head) bytes)) (string_bytes c.in_ok-text_of_times.field-0)) (ap (λ n. n - length head) count ∙ beyond found.whole (length head)) c.in_ok-text_of_times.ensures;
     }

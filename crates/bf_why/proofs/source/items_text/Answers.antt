@@ -6,4 +6,4 @@ use Rattle.bf_why.proofs.source.items_text.Goals as goal
 
 pub returns-in-ItemsAreMissing : goal.returns-in-ItemsAreMissing
 returns-in-ItemsAreMissing c =
-    subst (λ (cause : StateCause). IfOk c.no_list.result (λ text. text ≡ items_text_of c.args.each (option_map (λ t. t.now) c.args.source) cause)) (sym c.in-ItemsAreMissing.is) (c.no_list.ensures c.args.each)
+    subst (λ (cause : StateCause). IfOk c.no_list_text.result (λ text. text ≡ items_text_of c.args.each (option_map (λ t. t.now) c.args.source) cause)) (sym c.in-ItemsAreMissing.is) (c.no_list_text.ensures c.args.each)

@@ -10,8 +10,8 @@ returns c =
     let branch : List ℕ = codes "A branch fails, too, where what it pushes names a task that isn't directly downstream of it." in
     let source : List ℕ = codes "It fails, too, where it doesn't push a list of 0 to 1,024 items, since a task is expanded over it." in
     let not_told : List ℕ = codes "Why a try failed isn't in a report: what its program wrote to standard error says it." in
-    c.in_ok-add.ensures
-    ∙ ap (λ ls. ls ++ not_told ∷ []) (c.in_ok-add_if-2.ensures ∙ ap (λ ls. ls ++ line c.gives_items.result source) c.in_ok-add_if.ensures)
+    c.in_ok-add_line.ensures
+    ∙ ap (λ ls. ls ++ not_told ∷ []) (c.in_ok-add_line_if-2.ensures ∙ ap (λ ls. ls ++ line c.gives_items.result source) c.in_ok-add_line_if.ensures)
     ∙ (λ i. ((lines ++ line (c.is_branch.ensures i) branch) ++ line (c.gives_items.ensures i) source) ++ not_told ∷ [])
     ∙ append_assoc (lines ++ line (is_branch_in (task_of c.args.dag.now c.args.task)) branch) (line (gives_items_in c.args.dag.now c.args.task) source) (not_told ∷ [])
     ∙ append_assoc lines (line (is_branch_in (task_of c.args.dag.now c.args.task)) branch) (line (gives_items_in c.args.dag.now c.args.task) source ++ not_told ∷ [])

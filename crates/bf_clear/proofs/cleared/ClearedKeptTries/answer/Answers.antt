@@ -4,7 +4,7 @@ use Rattle.std.proofs.lemmas.Int.{to_z-of_z}
 use Rattle.std.proofs.lemmas.Result.{IfOk-weaker}
 use Rattle.bf_core.specs.Terms.{Dag}
 use Rattle.bf_kept.specs.Kept.{IsAnsweredBy}
-use Rattle.bf_dependents.specs.Dependents.{has_in}
+use Rattle.bf_dependents.specs.Dependents.{has_instance_in}
 use Rattle.bf_clear.specs.Keeping.{Clearance, kept_in}
 use Rattle.bf_clear.proofs.Replies.{answers_here, answers_none}
 use Rattle.bf_clear.proofs.cleared.ClearedKeptTries.answer.Goals as goal
@@ -19,7 +19,7 @@ returns-in-Some c =
     subst (λ (k : Clearance). IsAnsweredBy (kept_in k) c.args.name c.args.given.now o) c.self.view_is
     (answers_here inside c.args.name c.args.given.now c.in-Some.instance.now o
     (grind (arith, c.if-not-is_task.false, c.len.ensures, few))
-    (sym (ap (λ (d : Dag). has_in d c.self.inside.cleared c.args.name.run c.args.name.task c.args.name.index) c.dag-dag.ensures.dag) ∙ (ap (has_in c.dag-dag.result.now c.self.inside.cleared c.args.name.run c.args.name.task) (sym index) ∙ (sym c.has.ensures ∙ c.if-has.false)))
+    (sym (ap (λ (d : Dag). has_instance_in d c.self.inside.cleared c.args.name.run c.args.name.task c.args.name.index) c.dag-dag.ensures.dag) ∙ (ap (has_instance_in c.dag-dag.result.now c.self.inside.cleared c.args.name.run c.args.name.task) (sym index) ∙ (sym c.has_instance.ensures ∙ c.if-has_instance.false)))
     (sym c.instance_at.ensures ∙ ap option_copied c.in-Some.is) is))
     c.answer_of_instance.ensures
 

@@ -20,26 +20,26 @@ returns-then-not-is_undecided-clause-none c =
     let f : true ≡ false = sym yes ∙ no in
     cc)
 
-pub returns-then-awaits-clause-none : goal.returns-then-awaits-clause-none
-returns-then-awaits-clause-none c =
+pub returns-then-decides_to_wait-clause-none : goal.returns-then-decides_to_wait-clause-none
+returns-then-decides_to_wait-clause-none c =
     let dag : Dag = c.self.inside.plan.now.dag in
     let s : State = c.self.inside.state in
-    let is : after_verdict c.dag-dag.result.now (λ u. seen_in (cell_at s c.args.run u)) c.args.task c.gate-verdict.result ≡ decision_in dag s c.args.run c.args.task =
-    decision_by dag c.dag-dag.result.now s c.args.run c.args.task c.gate-verdict.result _ c.dag-dag.ensures.dag c.gate-verdict.ensures refl in
-    rw (← c.self.view_is) (λ able. able.decides (sym is ∙ c.awaits.ensures.0 c.if-awaits.true))
+    let is : after_verdict c.dag-dag.result.now (λ u. seen_in (cell_at s c.args.run u)) c.args.task c.task_verdict-verdict.result ≡ decision_in dag s c.args.run c.args.task =
+    decision_by dag c.dag-dag.result.now s c.args.run c.args.task c.task_verdict-verdict.result _ c.dag-dag.ensures.dag c.task_verdict-verdict.ensures refl in
+    rw (← c.self.view_is) (λ able. able.decides (sym is ∙ c.decides_to_wait.ensures.0 c.if-decides_to_wait.true))
 
 pub returns-clause-may_come : goal.returns-clause-may_come
 returns-clause-may_come c =
     let dag : Dag = c.self.inside.plan.now.dag in
     let s : State = c.self.inside.state in
     let now : _ = rw c.dag-dag.ensures.dag at (c.is_undecided.ensures.0 c.if-not-is_undecided.false) in
-    let on : c.goes_on.result ≡ goes_on_in dag s c.args.run c.args.task = goes_on_by dag c.dag-dag.result.now s c.args.run c.args.task c.gate-verdict.result c.goes_on.result c.dag-dag.ensures.dag c.gate-verdict.ensures c.goes_on.ensures in
-    let is : after_verdict c.dag-dag.result.now (λ u. seen_in (cell_at s c.args.run u)) c.args.task c.gate-verdict.result ≡ decision_in dag s c.args.run c.args.task =
-    decision_by dag c.dag-dag.result.now s c.args.run c.args.task c.gate-verdict.result _ c.dag-dag.ensures.dag c.gate-verdict.ensures refl in
+    let on : c.goes_on_to_expansion.result ≡ goes_on_in dag s c.args.run c.args.task = goes_on_by dag c.dag-dag.result.now s c.args.run c.args.task c.task_verdict-verdict.result c.goes_on_to_expansion.result c.dag-dag.ensures.dag c.task_verdict-verdict.ensures c.goes_on_to_expansion.ensures in
+    let is : after_verdict c.dag-dag.result.now (λ u. seen_in (cell_at s c.args.run u)) c.args.task c.task_verdict-verdict.result ≡ decision_in dag s c.args.run c.args.task =
+    decision_by dag c.dag-dag.result.now s c.args.run c.args.task c.task_verdict-verdict.result _ c.dag-dag.ensures.dag c.task_verdict-verdict.ensures refl in
     let named : c.deciding.result ≡ deciding (goes_on_in dag s c.args.run c.args.task) c.args.run c.args.task = c.deciding.ensures ∙ ap (λ g. deciding g c.args.run c.args.task) on in
     rw (← c.self.view_is, named) (
       decide_able dag c.self.inside.plan.now.limits s c.args.run c.args.task (goes_on_in dag s c.args.run c.args.task) _ now refl is
-          (λ e. let f : true ≡ false = sym (c.awaits.ensures.1 e) ∙ c.if-awaits.false in cc),
+          (λ e. let f : true ≡ false = sym (c.decides_to_wait.ensures.1 e) ∙ c.if-decides_to_wait.false in cc),
       untimed c.self.inside.clock c.args.run c.args.task (goes_on_in dag s c.args.run c.args.task),
     )
 
@@ -47,5 +47,5 @@ pub returns-clause-decides : goal.returns-clause-decides
 returns-clause-decides c =
     let dag : Dag = c.self.inside.plan.now.dag in
     let s : State = c.self.inside.state in
-    let on : c.goes_on.result ≡ goes_on_in dag s c.args.run c.args.task = goes_on_by dag c.dag-dag.result.now s c.args.run c.args.task c.gate-verdict.result c.goes_on.result c.dag-dag.ensures.dag c.gate-verdict.ensures c.goes_on.ensures in
+    let on : c.goes_on_to_expansion.result ≡ goes_on_in dag s c.args.run c.args.task = goes_on_by dag c.dag-dag.result.now s c.args.run c.args.task c.task_verdict-verdict.result c.goes_on_to_expansion.result c.dag-dag.ensures.dag c.task_verdict-verdict.ensures c.goes_on_to_expansion.ensures in
     rw (← c.self.view_is) (c.deciding.ensures ∙ ap (λ g. deciding g c.args.run c.args.task) on)

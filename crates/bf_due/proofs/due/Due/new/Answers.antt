@@ -6,5 +6,5 @@ use Rattle.bf_due.proofs.due.Due.new.Goals as goal
 
 pub returns : goal.returns
 returns c =
-    starts c.args.core.now c.journal-replayed.ensures.replayed c.ranking.ensures c.in_ok-agenda.agenda.items c.add_open.new.agenda.items c.clean.new.agenda.items
-    (c.in_ok-agenda.ensures {u = tt}) (subst (λ (xs : List Step). HasAdded c.args.core.now IsOpening xs c.add_open.new.agenda.items) c.make_room.ensures.items c.add_open.ensures) c.clean.ensures c.clean.new.agenda.room c.new.result.items c.new.ensures.items
+    starts c.args.core.now c.journal-replayed.ensures.replayed c.tasks_have_ranks.ensures c.in_ok-agenda.agenda.items c.add_open.new.agenda.items c.drop_outdated_steps.new.agenda.items
+    (c.in_ok-agenda.ensures {u = tt}) (subst (λ (xs : List Step). HasAdded c.args.core.now IsOpening xs c.add_open.new.agenda.items) c.make_room.ensures.items c.add_open.ensures) c.drop_outdated_steps.ensures c.drop_outdated_steps.new.agenda.room c.new.result.items c.new.ensures.items

@@ -29,7 +29,7 @@ returns c =
     let one : c.push_labels.new.text.items ≡ before ++ labels =
     c.in_ok-push_labels.ensures ∙ ap (λ ss. before ++ label_lines names widths (scale_of ss) ss) (ap moments c.as_slice.ensures.value ∙ c.in_ok-starts.ensures) in
     let two : c.push_row.new.text.items ≡ (before ++ labels) ++ first =
-    c.in_ok-push_row.ensures ∙ ap₂ (λ marks sums. c.push_labels.new.text.items ++ row names widths colored (codes "run") marks sums) (c.as_slice-2.ensures.value ∙ c.in_ok-states.ensures) c.states_in-tally.ensures
+    c.in_ok-push_row.ensures ∙ ap₂ (λ marks sums. c.push_labels.new.text.items ++ row names widths colored (codes "run") marks sums) (c.as_slice-2.ensures.value ∙ c.in_ok-states.ensures) c.tally_of_shown_states-tally.ensures
     ∙ ap (λ t. t ++ first) one in
     let three : c.push_tasks.new.text.items ≡ ((before ++ labels) ++ first) ++ others = c.in_ok-push_tasks.ensures ∙ ap (λ t. t ++ others) two in
     let four : c.push.new.text.items ≡ (((before ++ labels) ++ first) ++ others) ++ 10 ∷ [] = c.in_ok-push.ensures ∙ ap (λ t. t ++ 10 ∷ []) three in

@@ -9,4 +9,4 @@ invariant_of-self g c =
     let base = g.K.Journaled.base in
     let old = g.D.Write.written c.self.inside.device in
     let was : IsWritten may base old false = subst (λ f. IsWritten may base old f) c.if-self.false c.self.invariant in
-    goes_on may base old _ c.args.line.now c.is_recorded.result was c.requires c.is_recorded.ensures
+    goes_on may base old _ c.args.line.now c.try_record_line.result was c.requires c.try_record_line.ensures

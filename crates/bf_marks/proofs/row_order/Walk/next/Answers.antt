@@ -10,7 +10,7 @@ returns-clause-some c =
     record {
       left = reverse left;
       was = ap reverse c.in-Some.ensures.items ∙ popped left c.in-Some.task;
-      stands = c.let_stand.ensures;
+      stands = c.mark_standing.ensures;
       now =
           ap reverse (c.in_ok-extend_from_slice.ensures.items ∙ ap (λ xs. left ++ xs) (c.as_slice-2.ensures.value ∙ c.reverse.ensures.items))
           ∙ piled left more

@@ -11,7 +11,7 @@ pub returns : goal.returns
 returns c =
     let run = c.self.inside.run in
     let next : is_further_task (open_in run.tasks) c.requires.0 ≡ true = subst (λ (o : RunSoFar). is_further_task o.task c.requires.0 ≡ true) (sym c.self.view_is) c.requires.1 in
-    on_ok_weaker c.go_on_run.result
-    (λ went. subst (λ (o : RunSoFar). put_further (Some o) c.args.ended ≡ Some (run_so_far c.go_on_run.new.run)) c.self.view_is
+    on_ok_weaker c.add_instance_to_run.result
+    (λ went. subst (λ (o : RunSoFar). put_further (Some o) c.args.ended ≡ Some (run_so_far c.add_instance_to_run.new.run)) c.self.view_is
     (further_seen run c.requires.0 c.args.ended next ∙ ap (λ (r : RunReport). Some (run_so_far r)) (sym went)))
-    c.go_on_run.ensures
+    c.add_instance_to_run.ensures

@@ -10,7 +10,7 @@ use Rattle.bf_report_reader.proofs.open.OpenRun.add_part.Goals as goal
 pub returns : goal.returns
 returns c =
     let run = c.self.inside.run in
-    on_ok_weaker c.tell_run.result
-    (λ told. subst (λ (o : RunSoFar). put_part (Some o) c.args.part ≡ Some (run_so_far c.tell_run.new.run)) c.self.view_is
+    on_ok_weaker c.add_part_to_run.result
+    (λ told. subst (λ (o : RunSoFar). put_part (Some o) c.args.part ≡ Some (run_so_far c.add_part_to_run.new.run)) c.self.view_is
     (told_seen run c.args.part ∙ ap (λ (r : RunReport). Some (run_so_far r)) (sym told)))
-    c.tell_run.ensures
+    c.add_part_to_run.ensures

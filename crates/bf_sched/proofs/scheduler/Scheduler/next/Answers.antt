@@ -8,7 +8,7 @@ use Rattle.bf_sched.proofs.scheduler.Scheduler.next.Goals.{then-self-count+in_de
 
 pub invariant_of-self-in-Some : goal.invariant_of-self-in-Some
 invariant_of-self-in-Some c =
-    step_keeps c.self.inside.ready c.advance.new.ready c.self.inside.workers c.self.inside.running c.in-Some.event c.journal-replayed.ensures.replayed c.self.invariant (c.in-Some.ensures {u = tt}) c.in_ok-advance.ensures.ok
+    step_keeps c.self.inside.ready c.apply_allowed.new.ready c.self.inside.workers c.self.inside.running c.in-Some.event c.journal-replayed.ensures.replayed c.self.invariant (c.in-Some.ensures {u = tt}) c.in_ok-apply_allowed.ensures.ok
 
 pub invariant_of-self-in-Some-next_try : goal.invariant_of-self-in-Some-next_try
 invariant_of-self-in-Some-next_try c =

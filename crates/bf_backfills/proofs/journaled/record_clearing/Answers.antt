@@ -1,0 +1,19 @@
+use Rattle.bf_backfills.proofs.Recorded.{fault_over, left_over, sends_over}
+use Rattle.bf_backfills.proofs.journaled.record_clearing.Goals as goal
+
+pub returns-in-Ok-clause-ok : goal.returns-in-Ok-clause-ok
+returns-in-Ok-clause-ok g c =
+    let opened = c.in_ok-journal.ensures in
+    sends_over (g.J.Journals.journal c.args.journals.now) c.args.asked _ opened.held _ opened.retry_failed _ _ _ _ _ _ _ _ c.in-Ok.success c.in-Ok.is c.record_resumed_report-report.ensures.ok
+
+pub returns-in-Err-clause-fault : goal.returns-in-Err-clause-fault
+returns-in-Err-clause-fault g c =
+    let opened = c.in_ok-journal.ensures in
+    rw c.fault_at_journal.ensures (fault_over (g.J.Journals.journal c.args.journals.now) c.args.asked _ opened.held _ opened.retry_failed _ _ _ _ _
+    _ _ opened.stop_after _ opened.path c.in-Err.fault c.in-Err.is c.record_resumed_report-report.ensures.fault)
+
+pub returns-in-Err-clause-left : goal.returns-in-Err-clause-left
+returns-in-Err-clause-left g c =
+    let opened = c.in_ok-journal.ensures in
+    rw c.fault_at_journal.ensures (left_over (g.J.Journals.journal c.args.journals.now) c.args.asked _ opened.held _ opened.retry_failed _ _ _ _ _
+    _ _ _ _ _ c.in-Err.fault c.in-Err.is c.record_resumed_report-report.ensures.left)

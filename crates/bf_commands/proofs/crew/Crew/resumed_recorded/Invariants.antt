@@ -1,8 +1,0 @@
-use Rattle.bf_journal.specs.Recording.{IsRecordBy}
-use Rattle.bf_commands.proofs.crew.Crew.resumed_recorded.Given as goal
-
-abbrev pub ghosts-recorded : goal.ghosts-recorded
-ghosts-recorded g a = record {
-  base = g.D.Write.written a.record.device;
-  may_record = IsRecordBy (g.R.TaskRunner.may_answer a.keeping.now.runner.now) a.plan.now.dag a.runs.now;
-}

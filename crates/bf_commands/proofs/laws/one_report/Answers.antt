@@ -1,5 +1,0 @@
-use Rattle.bf_commands.proofs.OneReport as reports
-use Rattle.bf_commands.proofs.laws.one_report.Goals as goal
-
-pub returns : goal.returns
-returns c = reports.one_report

@@ -1,8 +1,0 @@
-use Rattle.std.proofs.Common.{refl, rules, w32, SFits}
-use Rattle.std.proofs.lemmas.Int.{to_z-of_z}
-use Rattle.bf_commands.proofs.stop.Stopping.lost.Goals as goal
-
-pub returns-in-Ok-clause-told : goal.returns-in-Ok-clause-told
-returns-in-Ok-clause-told c =
-    let fits : SFits w32 c.args.name.index = search rules in
-    (search rules, to_z-of_z w32 c.args.name.index fits, refl)

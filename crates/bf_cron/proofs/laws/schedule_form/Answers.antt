@@ -1,5 +1,0 @@
-use Rattle.bf_cron.proofs.Schedules.{schedule_written, schedule_read}
-use Rattle.bf_cron.proofs.laws.schedule_form.Goals as goal
-
-pub returns : goal.returns
-returns c = λ text s. (schedule_written text s, schedule_read text s)

@@ -1,5 +1,0 @@
-use Rattle.bf_dependents.specs.Marks.{AreTouched}
-use Rattle.bf_dependents.proofs.following.touched_in.Given as goal
-
-abbrev pub invariant-loop-run : goal.invariant-loop-run
-invariant-loop-run l = AreTouched l.plan.dag l.seeds l.run l.rows.items

@@ -1,5 +1,0 @@
-use Rattle.bf_dependents.specs.Marks.{AreUnmarked}
-use Rattle.bf_dependents.proofs.marks.unmarked.Given as goal
-
-abbrev pub invariant-loop : goal.invariant-loop
-invariant-loop l = AreUnmarked l.counter l.tasks l.rows.items

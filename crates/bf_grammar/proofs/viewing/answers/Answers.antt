@@ -1,5 +1,0 @@
-use Rattle.std.proofs.Common.{refl}
-use Rattle.bf_grammar.proofs.viewing.answers.Goals as goal
-
-pub returns : goal.returns
-returns c = c.arg.ensures _ _ c.new.ensures c.positional.ensures refl

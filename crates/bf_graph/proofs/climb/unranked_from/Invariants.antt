@@ -1,5 +1,0 @@
-use Rattle.bf_graph.specs.Climbs.{AreRankedBetween}
-use Rattle.bf_graph.proofs.climb.unranked_from.Given as goal
-
-abbrev pub invariant-loop-place : goal.invariant-loop-place
-invariant-loop-place l = AreRankedBetween l.ranks l.upstreams l.from l.place

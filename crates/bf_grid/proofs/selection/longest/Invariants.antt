@@ -1,6 +1,0 @@
-use Rattle.std.proofs.Common.{◌≡◌, ◌≤◌, take}
-use Rattle.bf_grid.specs.Selection.{longest_of, names_of}
-use Rattle.bf_grid.proofs.selection.longest.Given as goal
-
-abbrev pub invariant-loop-task : goal.invariant-loop-task
-invariant-loop-task l = (l.longest ≡ longest_of (names_of l.dag (take l.task-index l.tasks))) × (3 ≤ l.longest)

@@ -1,9 +1,0 @@
-use Rattle.std.proofs.lemmas.Result.{IfOk-weaker}
-use Rattle.bf_input.proofs.WholeFiles.{read_of, same_graph, whole_graph}
-use Rattle.bf_input.proofs.files.graph_bytes.Goals as goal
-
-pub returns-clause-says : goal.returns-clause-says
-returns-clause-says g c = IfOk-weaker c.file_bytes.result _ _ (λ bytes read held told. same_graph held bytes.items (read_of 8_388_608 _ held bytes.items told read)) c.file_bytes.ensures.ok
-
-pub returns-clause-whole : goal.returns-clause-whole
-returns-clause-whole g c = IfOk-weaker c.file_bytes.result _ _ (λ bytes read held told. whole_graph held bytes.items (read_of 8_388_608 _ held bytes.items told read)) c.file_bytes.ensures.ok

@@ -1,6 +1,0 @@
-use Rattle.std.proofs.lemmas.Result.{IfOk-weaker}
-use Rattle.bf_input.proofs.WholeFiles.{read_of, same_table}
-use Rattle.bf_input.proofs.files.table_bytes.Goals as goal
-
-pub returns-clause-says : goal.returns-clause-says
-returns-clause-says g c = IfOk-weaker c.file_bytes.result _ _ (λ bytes read held told. same_table held bytes.items (read_of 8_388_608 _ held bytes.items told read)) c.file_bytes.ensures.ok

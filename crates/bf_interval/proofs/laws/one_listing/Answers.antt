@@ -1,5 +1,0 @@
-use Rattle.bf_interval.proofs.OneListing as listings
-use Rattle.bf_interval.proofs.laws.one_listing.Goals as goal
-
-pub returns : goal.returns
-returns c = listings.one_listing

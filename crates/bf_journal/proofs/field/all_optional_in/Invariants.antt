@@ -1,6 +1,0 @@
-use Rattle.std.proofs.Common.{◌≡◌, map, take}
-use Rattle.bf_journal.specs.Records.{optional_of}
-use Rattle.bf_journal.proofs.field.all_optional_in.Given as goal
-
-abbrev pub invariant-loop-value : goal.invariant-loop-value
-invariant-loop-value l = take l.value-index l.values ≡ map optional_of l.all.items

@@ -1,6 +1,0 @@
-use Rattle.std.proofs.Common.{◌≡◌, map, take}
-use Rattle.bf_journal.specs.Heads.{task_value}
-use Rattle.bf_journal.proofs.head.all_task_words.Given as goal
-
-abbrev pub invariant-loop-task : goal.invariant-loop-task
-invariant-loop-task l = l.tasks.items ≡ map (task_value l.dag) (take l.task-index l.dag.tasks)

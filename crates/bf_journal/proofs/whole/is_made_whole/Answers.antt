@@ -1,7 +1,0 @@
-use Rattle.std.proofs.Common.{◌∙◌, length, arith, inl, refl, sym}
-use Rattle.std.proofs.lemmas.List.{take_all}
-use Rattle.bf_journal.proofs.whole.is_made_whole.Goals as goal
-
-pub returns-then-not-is_cut-clause-part : goal.returns-then-not-is_cut-clause-part
-returns-then-not-is_cut-clause-part g c held torn failed told =
-    (held, c.if-not-is_cut.ensures.kept refl ∙ told, record { count = length held; is = inl (sym (take_all (length held) held (omega arith))) })

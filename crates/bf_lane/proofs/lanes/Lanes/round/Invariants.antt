@@ -1,5 +1,0 @@
-use Rattle.std.proofs.Common.{◌≡◌, length}
-use Rattle.bf_lane.proofs.lanes.Lanes.round.Given as goal
-
-abbrev pub invariant-loop-at : goal.invariant-loop-at
-invariant-loop-at g l = (l.self ≡ l.fn.self) × (l.at-end ≡ length l.self)

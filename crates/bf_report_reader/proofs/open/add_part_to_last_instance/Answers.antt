@@ -1,0 +1,13 @@
+use Rattle.std.proofs.Common.{◌∙◌, ap}
+use Rattle.std.proofs.lemmas.Result.{on_ok_weaker}
+use Rattle.bf_report_reader.specs.Beginning.{with_told}
+use Rattle.bf_report_reader.specs.Lasts.{at_last}
+use Rattle.bf_report_reader.proofs.PartingFacts.{set_last}
+use Rattle.bf_report_reader.proofs.open.add_part_to_last_instance.Goals as goal
+
+pub returns : goal.returns
+returns c =
+    let held = c.instances.inside.items in
+    on_ok_weaker c.add_part_to_instance.result
+    (λ told. set_last held.items held.len c.in-Some.instance.now c.add_part_to_instance.new.instance (λ x. with_told x c.args.part) held.ok.0 c.in-Some.ensures.value told ∙ ap (at_last (λ x. with_told x c.args.part)) c.instances.view_is)
+    c.add_part_to_instance.ensures

@@ -1,5 +1,0 @@
-use Rattle.bf_rescan.specs.Looks.{IsSoonest, IsTryBefore}
-use Rattle.bf_rescan.proofs.moments.soonest_of_run.Given as goal
-
-abbrev pub invariant-loop-task : goal.invariant-loop-task
-invariant-loop-task l = IsSoonest l.core (IsTryBefore l.run l.task) l.soonest

@@ -1,0 +1,89 @@
+use Rattle.std.proofs.Common.{ℕ, List, Option, sym, ap, ◌∙◌, subst, string_bytes}
+use Rattle.bf_plan.specs.declared.plan.Dag.{Dag}
+use Rattle.bf_marks.specs.declared.view.View.{View}
+use Rattle.bf_command_fault.specs.declared.status.Status.{Status}
+use Rattle.bf_command_fault.proofs.Leaving.{leaves_due}
+use Rattle.bf_disk.specs.Files.{IsReadable}
+use Rattle.bf_grid.specs.Grid.{grid_text}
+use Rattle.bf_input.specs.Inputs.{IsReadOf, IsReportFault}
+use Rattle.bf_views.specs.Matching.{is_of_graph}
+use Rattle.bf_views.specs.Planned.{IsPlanningFault}
+use Rattle.bf_views.specs.Refused.{IsRefusedBy}
+use Rattle.bf_views.proofs.GridEnds.{grid_answer, reported_fault, reversed_fault, reversed_leaves, unmeant_fault, unmeant_leaves}
+use Rattle.bf_views.proofs.PageEnds.{fails}
+use Rattle.bf_views.proofs.ReportedEnds.{planning_fault, refusal_fault, report_fault, unwritten_leaves, writing_fault}
+use Rattle.bf_views.proofs.show.answer_show.Goals as goal
+
+pub returns-in_err-bounds : goal.returns-in_err-bounds
+returns-in_err-bounds g c =
+    fails _ _ _ _ _ c.from_residual.ensures.1
+    (unmeant_fault (g.S.Source.file c.args.files.now) c.args.asked _ c.in_err-bounds.ensures.bad) (unmeant_leaves _ _ _ c.args.asked _ c.in_err-bounds.ensures.bad)
+
+pub returns-in_err-planned : goal.returns-in_err-planned
+returns-in_err-planned g c =
+    let files = g.S.Source.file c.args.files.now in
+    fails _ _ _ _ _ c.from_residual-in_err-planned.ensures.1
+    (reported_fault files c.args.asked c.in_ok-bounds.bounds c.in_ok-bounds.ensures.means _ (planning_fault files c.args.asked.graph (string_bytes c.args.asked.report) _ c.in_err-planned.ensures.fault))
+    (unwritten_leaves _ _ _ (IsPlanningFault files c.args.asked.graph) (λ n is. is) _ c.in_err-planned.ensures.fault)
+
+pub returns-in_err-refuse_reversed : goal.returns-in_err-refuse_reversed
+returns-in_err-refuse_reversed g c =
+    fails _ _ _ _ _ c.from_residual-in_err-refuse_reversed.ensures.1
+    (reversed_fault (g.S.Source.file c.args.files.now) c.args.asked c.in_ok-bounds.bounds c.in_ok-bounds.ensures.means c.in_ok-planned.ensures.readable _ c.in_err-refuse_reversed.ensures.err)
+    (reversed_leaves _ _ _ c.in_ok-bounds.bounds _ c.in_err-refuse_reversed.ensures.err)
+
+pub returns-in_err-report : goal.returns-in_err-report
+returns-in_err-report g c =
+    let files = g.S.Source.file c.args.files.now in
+    let path = string_bytes c.args.asked.report in
+    let is = subst (λ (file : Option (Option (List ℕ))). IsReportFault path file c.in_err-report.field-0.0) (c.in_ok-planned.ensures.stays path) c.in_err-report.ensures.fault in
+    fails _ _ _ _ _ c.from_residual-in_err-report.ensures.1
+    (reported_fault files c.args.asked c.in_ok-bounds.bounds c.in_ok-bounds.ensures.means _ (report_fault files c.args.asked.graph path c.in_ok-planned.ensures.readable _ is))
+    (unwritten_leaves _ _ _ (IsReportFault path (files path)) (λ n is. is) _ is)
+
+pub returns-in_err-refuse_other_graph : goal.returns-in_err-refuse_other_graph
+returns-in_err-refuse_other_graph g c =
+    let files = g.S.Source.file c.args.files.now in
+    let path = string_bytes c.args.asked.report in
+    let report = c.in_ok-report.report in
+    let stays = c.in_ok-planned.ensures.stays path in
+    let read : IsReadOf (files path) report = record { readable = subst IsReadable stays c.in_ok-report.ensures.readable; says = λ held told. c.in_ok-report.ensures.says held (stays ∙ told) } in
+    let is = subst (λ (d : Dag). IsRefusedBy (is_of_graph d report) c.in_err-refuse_other_graph.field-0.0) c.dag.ensures.dag c.in_err-refuse_other_graph.ensures.err in
+    fails _ _ _ _ _ c.from_residual-in_err-refuse_other_graph.ensures.1
+    (reported_fault files c.args.asked c.in_ok-bounds.bounds c.in_ok-bounds.ensures.means _
+    (refusal_fault files c.args.asked.graph path c.in_ok-planned.planned report c.in_ok-planned.ensures.plan c.in_ok-planned.ensures.readable read _ is))
+    (unwritten_leaves _ _ _ (IsRefusedBy (is_of_graph c.in_ok-planned.planned.plan.dag report)) (λ n is. is) _ is)
+
+pub returns-in_err-write_viewed : goal.returns-in_err-write_viewed
+returns-in_err-write_viewed g c =
+    let files = g.S.Source.file c.args.files.now in
+    let path = string_bytes c.args.asked.report in
+    let planned = c.in_ok-planned.planned in
+    let report = c.in_ok-report.report in
+    let stays = c.in_ok-planned.ensures.stays path in
+    let read : IsReadOf (files path) report = record { readable = subst IsReadable stays c.in_ok-report.ensures.readable; says = λ held told. c.in_ok-report.ensures.says held (stays ∙ told) } in
+    let matches = ap (λ (d : Dag). is_of_graph d report) (sym c.dag.ensures.dag) ∙ c.in_ok-refuse_other_graph.ensures.ok in
+    fails _ _ _ _ _ c.from_residual-in_err-write_viewed.ensures.1
+    (reported_fault files c.args.asked c.in_ok-bounds.bounds c.in_ok-bounds.ensures.means _
+    (writing_fault files c.args.asked.graph path planned report c.in_ok-planned.ensures.plan c.in_ok-planned.ensures.readable read _ c.in_err-write_viewed.ensures.fault))
+    (leaves_due _ _ _ (λ text is. (
+      Status.Success,
+      grid_answer files c.args.asked c.in_ok-bounds.bounds c.in_ok-bounds.ensures.means c.args.canvas c.in_ok-refuse_reversed.ensures.ok planned report c.in_ok-planned.ensures.plan c.in_ok-planned.ensures.readable read matches
+          text (is ∙ ap (λ (v : View). grid_text v planned.plan.dag report) c.view_of-view.ensures),
+    )) _ _ _ c.in_err-write_viewed.ensures.left)
+
+pub returns-clause-answer : goal.returns-clause-answer
+returns-clause-answer g c =
+    let files = g.S.Source.file c.args.files.now in
+    let path = string_bytes c.args.asked.report in
+    let planned = c.in_ok-planned.planned in
+    let report = c.in_ok-report.report in
+    let stays = c.in_ok-planned.ensures.stays path in
+    let read : IsReadOf (files path) report = record { readable = subst IsReadable stays c.in_ok-report.ensures.readable; says = λ held told. c.in_ok-report.ensures.says held (stays ∙ told) } in
+    let matches = ap (λ (d : Dag). is_of_graph d report) (sym c.dag.ensures.dag) ∙ c.in_ok-refuse_other_graph.ensures.ok in
+    let text : List ℕ = grid_text c.view_of-view.result planned.plan.dag report in (
+      text,
+      grid_answer files c.args.asked c.in_ok-bounds.bounds c.in_ok-bounds.ensures.means c.args.canvas c.in_ok-refuse_reversed.ensures.ok planned report c.in_ok-planned.ensures.plan c.in_ok-planned.ensures.readable read matches
+          text (ap (λ (v : View). grid_text v planned.plan.dag report) c.view_of-view.ensures),
+      c.in_ok-write_viewed.ensures.grid,
+    )

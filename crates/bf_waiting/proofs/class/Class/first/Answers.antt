@@ -1,4 +1,0 @@
-use Rattle.bf_waiting.proofs.class.Class.first.Goals as goal
-
-pub returns-clause-first : goal.returns-clause-first
-returns-clause-first c = rw (← c.self.view_is) c.first.ensures.first

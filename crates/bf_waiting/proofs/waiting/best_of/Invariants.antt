@@ -1,5 +1,0 @@
-use Rattle.bf_waiting.specs.Looks.{IsBestTo}
-use Rattle.bf_waiting.proofs.waiting.best_of.Given as goal
-
-abbrev pub invariant-loop-class : goal.invariant-loop-class
-invariant-loop-class l = IsBestTo l.core l.class-index l.classes l.best

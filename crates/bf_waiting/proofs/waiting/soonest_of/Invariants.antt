@@ -1,5 +1,0 @@
-use Rattle.bf_waiting.specs.Looks.{IsSoonestTo}
-use Rattle.bf_waiting.proofs.waiting.soonest_of.Given as goal
-
-abbrev pub invariant-loop-class : goal.invariant-loop-class
-invariant-loop-class l = IsSoonestTo l.class-index l.classes l.soonest

@@ -1,5 +1,0 @@
-use Rattle.bf_zone.proofs.Spelled.{offset_written, offset_read}
-use Rattle.bf_zone.proofs.laws.offset_form.Goals as goal
-
-pub returns : goal.returns
-returns c = λ text n. (offset_written text n, offset_read text n)
