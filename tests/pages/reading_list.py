@@ -4,7 +4,8 @@
 NAME is a root set: `recursion` (what run_backfill comes to), `backfills` (what the program does, without the commands that show, explain and keep
 journals), `program` (all of it, and the laws of all crates). It prints the set's definitions by file, each with its lines (without comments, blank
 lines and imports), and then the sums. Without a word it prints the sums of each set. `--rest` prints the definitions that no public contract, law or
-invariant rests on, by file. `--rows` prints what does not resolve, a line each, and then how many rows were looked at, and how many differ.
+invariant rests on, by file. `--rows` prints what does not resolve, and what stands in specs/ while nothing public rests on it, or the other way round in
+specs/inner/, a line each, and then how many rows were looked at, and how many differ.
 
 A name ends the walk where it is the kit's, and at a type that code declares. A type is counted, and neither its fields nor its invariant are.
 """
@@ -23,12 +24,14 @@ LATER = {
     *("bf_views", "bf_grid", "bf_marks", "bf_explain", "bf_why", "bf_roots", "bf_wording", "bf_cells", "bf_page"),
     *("bf_reason", "bf_show", "bf_answers", "bf_times", "bf_journal", "bf_findings", "bf_file"),
 }
-USE = re.compile(r"(?:(?P<public>(?:unfoldable )?pub )|ghost )?use (?P<module>[\w.'-]+?)(?:\.\{(?P<names>[^{}]*)\}| as (?P<alias>\w+));?\s*$")
+USE = re.compile(r"(?:(?P<public>(?:unfoldable )?pub )|ghost )?use (?P<module>[\w.'-]+?)(?:\.\{(?P<names>[^{}]*)\}| as (?P<alias>\w+))?;?\s*$")
 # What the language has, and what its provers are called.
 KEYWORDS = {
     *("record", "where", "let", "in", "do", "elim", "case", "if", "then", "else", "Type", "Prim", "module", "λ", "Unit", "tt", "ℤ", "_"),
     *("abbrev", "pub", "unfoldable", "data", "absurd", "cc", "omega", "coded"),
 }
+# What binds in a `do`, too.
+BIND = "◌>>=◌"
 NAME = r"[^\W\d][\w'-]*(?:[≢≡][\w'-]+)*\??"
 TOKEN = re.compile(rf"(?<![\w.'])(?:_[\w'-]+|{NAME})(?:\.(?:{NAME}|\d+))*|>>=")
 HEADER = re.compile(r"^((?:abbrev |pub |unfoldable |opaque )*(?:record |data )?)([^\s:({]+)(?=\s*[:({])(?=.*:)")
@@ -40,14 +43,14 @@ def without_comments(text):
 
 
 def imports_of(lines):
-    """The names that `use` lines bring, each to its module and name there; an alias of a module to the module alone."""
+    """The names that `use` lines bring, each to its module and name there; a module, by its alias or its last word, to the module alone."""
     names, public = {}, set()
     for line in lines:
-        found = USE.match(line)
+        found = USE.match(line.strip())
         if not found:
             continue
-        if found["alias"]:
-            names[found["alias"]] = (found["module"], None)
+        if found["names"] is None:
+            names.setdefault(found["alias"] or found["module"].rpartition(".")[2], (found["module"], None))
             continue
         for part in filter(None, map(str.strip, found["names"].split(","))):
             source, _, alias = part.partition(" as ")
@@ -177,7 +180,7 @@ def names_in(text, there, bound):
     text = re.sub(rf"(?m)([{{;]|^ +)\s*{NAME} =(?=\s)", r"\1", text)
     given, unknown = [], []
     for token in TOKEN.findall(text):
-        head, *rest = ["◌>>=◌"] if token == ">>=" else token.split(".")
+        head, *rest = [BIND] if token == ">>=" or token == "do" and BIND in there.definitions | there.imports else token.split(".")
         source = there.imports.get(head, (there.name, head) if head in there.definitions or head in there.parts else None)
         if head in KEYWORDS or head in bound and (source is None or is_binder(head, source)):
             continue
@@ -300,11 +303,11 @@ def public_roots():
         text = path.read_text()
         names, _ = imports_of(text.splitlines())
         functions, outside = heads(text)
-        outside = "\n".join(line for line in outside.splitlines() if not USE.match(line))
+        outside = "\n".join(line for line in outside.splitlines() if not USE.match(line.strip()))
         some, _ = named_by("\n".join([outside, *(contract for _, public, contract in functions if public)]), names)
         found |= some
         unknown += named_by(" ".join(names), names)[1]
-        unknown += [line for line in text.splitlines() if line.startswith("ghost use ") and not USE.match(line)]
+        unknown += [line for line in text.splitlines() if line.strip().startswith("ghost use ") and not USE.match(line.strip())]
     return found, unknown
 
 
@@ -363,18 +366,28 @@ def print_rest():
     print(f"{len(rest)} definitions, {sum(map(lines_of, rest))} lines; {len(unread - read)} files hold no other, {len(unread & read)} are mixed")
 
 
+def misplaced(one, reached):
+    """What is wrong with the folder of a definition: specs/ holds what something public rests on, and specs/inner/ what nothing does."""
+    is_inner = one[1].split(".")[3] == "inner"
+    if is_inner and one in reached:
+        return "stands in specs/inner/, and a public contract, law or invariant rests on it"
+    if not is_inner and one not in reached:
+        return "stands in specs/, and no public contract, law or invariant rests on it"
+    return ""
+
+
 def print_rows():
-    """Each root, and each definition, is a row: all its names are something."""
-    rows, differing = 0, 0
+    """Each root is a row, and each definition: all its names are something. And each definition is one more: it stands in the right folder."""
+    definitions = [("definition", module.name, name) for module in modules().values() for name in module.definitions]
     roots = {"run_backfill": function_roots(RECURSION), "answer": function_roots(PROGRAM), "laws": law_roots(), "public contracts": public_roots()}
+    reached = closure(roots["public contracts"][0])
     parts = [(name, unknown) for name, (_, unknown) in roots.items()]
-    parts += [(f"{module.path}: {name}", rests_on(module.name, name)[1]) for module in modules().values() for name in module.definitions]
-    for name, unknown in parts:
-        rows += 1
-        if unknown:
-            differing += 1
-            print(f"{name}: nothing is {', '.join(dict.fromkeys(unknown))}")
-    print(rows, differing)
+    parts += [(f"{modules()[one[1]].path}: {one[2]}", rests_on(one[1], one[2])[1]) for one in definitions]
+    rows = [(name, f"nothing is {', '.join(dict.fromkeys(unknown))}" if unknown else "") for name, unknown in parts]
+    rows += [(f"{modules()[one[1]].path}: {one[2]}", misplaced(one, reached)) for one in definitions]
+    wrong = [f"{name}: {what}" for name, what in rows if what]
+    print(*wrong, sep="\n", end="\n" if wrong else "")
+    print(len(rows), len(wrong))
 
 
 def main(words):

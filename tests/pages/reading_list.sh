@@ -1,7 +1,7 @@
 #!/usr/bin/env bash
 # Looks at the reading list of each contract, tests/pages/reading_list.py: whatever a root or a definition of crates/*/specs names is there, so that
-# the list leaves nothing out; and the recursion takes no more lines than docs/PROOFS.md says. It takes python3. The last line is the sum, and the status is 1
-# where something differs.
+# the list leaves nothing out; specs/ holds what a public contract, law or invariant rests on, and specs/inner/ what none does; and the recursion takes no
+# more lines than docs/PROOFS.md says. It takes python3. The last line is the sum, and the status is 1 where something differs.
 set -euo pipefail
 
 source "$(dirname "$(readlink -f "${BASH_SOURCE[0]}")")/../shared/count.sh"

@@ -26,9 +26,9 @@ use Rattle.bf_moment.specs.Long.{is_long}
 use Rattle.bf_table.specs.declared.table.TableEntry.{TableEntry}
 use Rattle.bf_table.specs.Tables.{entries_from, entries_of, entry_of, entry_with, if_there, number_of, date_in, status_in, status_from, line_in, json_of_file, longest_table, table_in, table_with, with_first}
 use Rattle.bf_answers.specs.Answers.{entry_at}
-use Rattle.bf_answers.specs.Answers.{number_of as index_number}
-use Rattle.bf_answers.specs.Pieces.{named_members}
-use Rattle.bf_answers.specs.Tellable.{IsLow, IsTellable}
+use Rattle.bf_answers.specs.inner.Answers.{number_of as index_number}
+use Rattle.bf_answers.specs.inner.Pieces.{named_members}
+use Rattle.bf_answers.specs.inner.Tellable.{IsLow, IsTellable}
 use Rattle.bf_answers.specs.TableText.{entry_lines, entry_line, entry_members, table_text, whole}
 
 -- ---- numbers and texts

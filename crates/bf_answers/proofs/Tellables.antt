@@ -19,8 +19,9 @@ use Rattle.bf_report.specs.declared.report.Version.{Version}
 use Rattle.bf_report_reader.specs.Entries.{IsShownOutcome, IsShownResult}
 use Rattle.bf_report_reader.specs.Rules.{IsShownInstance, IsShownReport, IsShownRun, IsShownTask}
 use Rattle.bf_report_reader.proofs.Words.{id_utf8, moment_utf8}
-use Rattle.bf_answers.specs.Answers.{answers_in, entries_for, entry_at, instance_entries, number_of, run_entries, task_entries, tasks_entries}
-use Rattle.bf_answers.specs.Tellable.{IsLow, IsTellable}
+use Rattle.bf_answers.specs.Answers.{answers_in, entries_for, entry_at, instance_entries, run_entries, task_entries, tasks_entries}
+use Rattle.bf_answers.specs.inner.Answers.{number_of}
+use Rattle.bf_answers.specs.inner.Tellable.{IsLow, IsTellable}
 use Rattle.bf_answers.proofs.Ends.{text_is_its_last_line}
 
 abbrev AreTellable : List TableEntry → Type 0

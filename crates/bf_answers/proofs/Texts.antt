@@ -13,7 +13,7 @@ use Rattle.serde_json.specs.Find.{of_integer}
 use Rattle.serde_json.specs.Written.{compact_text, members_text, number_text}
 use Rattle.bf_table.specs.declared.table.TableEntry.{TableEntry}
 use Rattle.bf_answers.specs.Answers.{tasks_entries}
-use Rattle.bf_answers.specs.Pieces.{named_members}
+use Rattle.bf_answers.specs.inner.Pieces.{named_members}
 use Rattle.bf_answers.specs.TableText.{entry_line, entry_lines, status_data}
 use Rattle.bf_report.specs.declared.report.TaskReport.{TaskReport}
 

@@ -1,5 +1,5 @@
 -- The entries of a table that answers as a report tells.
-use Rattle.std.specs.Prelude.{ℕ, ◌-◌, ℤ, pos, negsuc, List, [], ◌∷◌, ◌++◌, map, Option, Some, None}
+use Rattle.std.specs.Prelude.{ℕ, ◌-◌, ℤ, pos, negsuc, List, [], ◌∷◌, ◌++◌, map, Some, None}
 use Rattle.std.specs.List.{flat_map, enumerate_from, range_with_len, zip}
 use Rattle.bf_value.specs.Json.{json_of}
 use Rattle.bf_moment.specs.Moment.{moment_text}
@@ -11,11 +11,6 @@ use Rattle.bf_report.specs.declared.report.InstanceReport.{InstanceReport}
 use Rattle.bf_report.specs.declared.report.TaskReport.{TaskReport}
 use Rattle.bf_report.specs.declared.report.RunReport.{RunReport}
 use Rattle.bf_report.specs.declared.report.Report.{Report}
-
--- a map index, -1 of a task that isn't expanded
-abbrev pub number_of : Option ℕ → ℤ
-number_of None = negsuc 0
-number_of (Some index) = pos index
 
 -- the entry that answers one try alone
 abbrev pub entry_at : List ℕ → List ℕ → ℤ → ℕ → ℕ → List ℕ → TableEntry

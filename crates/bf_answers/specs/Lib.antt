@@ -1,5 +1,4 @@
 pub mod Answers
 pub mod TableText
-pub mod Pieces
-pub mod Tellable
 pub mod Over
+pub mod inner

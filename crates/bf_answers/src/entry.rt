@@ -4,8 +4,9 @@ ghost use Rattle.serde_json.specs.Data.{Members, object};
 ghost use Rattle.serde_json.specs.Written.{compact_text, members_text, number_text};
 ghost use Rattle.serde_json.specs.Find.{of_integer};
 ghost use Rattle.bf_value.specs.Json.{json_of};
-ghost use Rattle.bf_answers.specs.Answers.{entry_at, entries_for, number_of};
-ghost use Rattle.bf_answers.specs.Pieces.{named_members};
+ghost use Rattle.bf_answers.specs.Answers.{entry_at, entries_for};
+ghost use Rattle.bf_answers.specs.inner.Answers.{number_of};
+ghost use Rattle.bf_answers.specs.inner.Pieces.{named_members};
 ghost use Rattle.bf_answers.specs.TableText.{entry_line, entry_lines};
 
 use bf_show::push_string;

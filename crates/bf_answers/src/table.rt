@@ -1,7 +1,8 @@
 //! The entries of a report, each added behind a text.
 ghost use Rattle.std.specs.Prelude.{◌≡◌, ◌++◌, ◌∷◌, ◌<◌, IfOk, OnOk, string_bytes, drop, length};
 ghost use Rattle.std.specs.List.{flat_map};
-ghost use Rattle.bf_answers.specs.Answers.{number_of, instance_entries, mapped_entries, retried_entries, run_entries, task_entries, tasks_entries};
+ghost use Rattle.bf_answers.specs.Answers.{instance_entries, mapped_entries, retried_entries, run_entries, task_entries, tasks_entries};
+ghost use Rattle.bf_answers.specs.inner.Answers.{number_of};
 ghost use Rattle.bf_answers.specs.TableText.{answers_text, entry_lines};
 
 use crate::entry::{InstanceName, push_failed_entry, push_outcome_entry};

@@ -25,12 +25,14 @@ use Rattle.bf_process.specs.Words.{LaunchingOf}
 use Rattle.bf_commands.specs.Programs.{Hearing, Losing, launched_by, with_clocks}
 use Rattle.bf_commands.proofs.Faults.{unwritten_leaves}
 use Rattle.bf_disk.specs.Files.{AreReadable, Files, IsHeld, IsReadable}
-use Rattle.bf_input.specs.Inputs.{IsReadOf, IsReportFault, OfFilesAndNamedTable}
+use Rattle.bf_input.specs.Inputs.{IsReportFault, OfFilesAndNamedTable}
+use Rattle.bf_input.specs.inner.Inputs.{IsReadOf}
 use Rattle.bf_backfills.specs.Commands.{HasNoMoment, IsClearAnswer, IsClearPlanAnswer, IsClearReportBy, IsLaunchable, Machine, MeansCleared, MeansRange, OfClearFiles, OfJournal, clear_input, first_paths, launcher_used_of, launching_asked_of, plan_input}
-use Rattle.bf_backfills.specs.CommandFaults.{CanClear, GoesWrongOver, IsClearFault, IsClearFaultBy, IsClearPlanFault, IsFaultOfClear, IsFaultOfClearing, IsFaultOfLauncher, IsRecordedClearFault}
-use Rattle.bf_backfills.specs.Named.{IsUnmeant}
-use Rattle.bf_backfills.specs.Files.{IsFaultAfterFile, IsOfBytes, IsReportAfterFile}
-use Rattle.bf_backfills.specs.Journals.{GoesWrongAfter, IsFaultAfterFileBy, IsFaultSinceFile, IsJournaledAfterFile, IsReportAfterFileBy}
+use Rattle.bf_backfills.specs.CommandFaults.{CanClear, GoesWrongOver, IsClearFault, IsClearFaultBy, IsClearPlanFault, IsFaultOfClear, IsFaultOfClearing, IsRecordedClearFault}
+use Rattle.bf_backfills.specs.inner.CommandFaults.{IsFaultOfLauncher}
+use Rattle.bf_backfills.specs.inner.Named.{IsUnmeant}
+use Rattle.bf_backfills.specs.inner.Files.{IsFaultAfterFile, IsOfBytes, IsReportAfterFile}
+use Rattle.bf_backfills.specs.inner.Journals.{GoesWrongAfter, IsFaultAfterFileBy, IsFaultSinceFile, IsJournaledAfterFile, IsReportAfterFileBy}
 use Rattle.bf_backfills.proofs.ClearInputs.{prepared_held, ready, unreported, uncleared}
 
 -- ---- the launcher

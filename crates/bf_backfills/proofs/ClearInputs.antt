@@ -27,8 +27,8 @@ use Rattle.bf_backfills.specs.Commands.{ClearInput, MeanSeeds, MeansCleared, fir
 use Rattle.bf_backfills.specs.CommandFaults.{IsFaultOfClearing, OfReadClearFiles}
 use Rattle.bf_backfills.specs.declared.named.UnreadToClear.{UnreadToClear}
 use Rattle.bf_backfills.specs.declared.named.UnreadToClear.TheVariants as naming
-use Rattle.bf_backfills.specs.Named.{IsReadFor, MeansNamed, path_of}
-use Rattle.bf_backfills.specs.Files.{IsOfBytes, IsPreparingFault}
+use Rattle.bf_backfills.specs.inner.Named.{IsReadFor, MeansNamed, path_of}
+use Rattle.bf_backfills.specs.inner.Files.{IsOfBytes, IsPreparingFault}
 use Rattle.bf_backfills.proofs.Alike.{clocks_alike, fault_in, graph_of, listing_of}
 use Rattle.bf_backfills.proofs.Exits.{reading_cases}
 

@@ -35,8 +35,9 @@ use Rattle.bf_disk.specs.Files.{AreReadable, Files, IsFirstUntold}
 use Rattle.bf_input.specs.Inputs.{OfFiles, OfFilesAndTable, graph_paths, table_paths, AreAlike}
 use Rattle.bf_input.specs.Moments.{Means}
 use Rattle.bf_backfills.specs.Commands.{IsCheckAnswer, IsDryAnswer, IsLaunchable, IsListAnswer, IsRunAnswer, IsRunReportBy, IsSingleAnswer, Machine, MeansRange, OfJournal, launching_asked_of, size_text}
-use Rattle.bf_backfills.specs.CommandFaults.{IsCheckFault, IsDryFault, IsFaultOfLauncher, IsListFault, HasRuns, IsRecordedRunFault, IsRunFault, IsRunFaultBy, IsSingleFault}
-use Rattle.bf_backfills.specs.Journals.{IsFaultOfRecorded, IsFaultOfRunBy, IsFaultOver}
+use Rattle.bf_backfills.specs.CommandFaults.{IsCheckFault, IsDryFault, IsListFault, HasRuns, IsRecordedRunFault, IsRunFault, IsRunFaultBy, IsSingleFault}
+use Rattle.bf_backfills.specs.inner.CommandFaults.{IsFaultOfLauncher}
+use Rattle.bf_backfills.specs.inner.Journals.{IsFaultOfRecorded, IsFaultOfRunBy, IsFaultOver}
 use Rattle.bf_backfills.proofs.Alike.{dry_fault, fault_in, graph_of, journaled_report, list_fault, list_of, listing_of, report_at, report_in, run_fault, run_report, single_fault, size_of}
 
 -- ---- what was read

@@ -8,7 +8,7 @@ use Rattle.bf_command_fault.specs.declared.fault.CommandFault.{CommandFault}
 use Rattle.bf_command_fault.specs.declared.fault.CommandFault.TheVariants.{BadMoment, OutOfMemory}
 use Rattle.bf_input.specs.Moments.{IsNoMoment}
 use Rattle.bf_backfills.specs.Commands.{HasUnmeantRun, MeanSeeds, MeansSeed}
-use Rattle.bf_backfills.specs.Named.{IsUnmeant}
+use Rattle.bf_backfills.specs.inner.Named.{IsUnmeant}
 
 snoc : (asked : List SeedAsked) (seeds : List Seed) (one : SeedAsked) (seed : Seed) → MeanSeeds asked seeds → MeansSeed one seed → MeanSeeds (asked ++ one ∷ []) (seeds ++ seed ∷ [])
 snoc [] [] one seed mean means = (means, tt)

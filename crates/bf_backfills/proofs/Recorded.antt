@@ -28,8 +28,8 @@ use Rattle.bf_planning.specs.Clocks.{AreClocksOf}
 use Rattle.bf_commands.specs.Programs.{Hearing, HearingTries, launched_by}
 use Rattle.bf_disk.specs.Files.{Files}
 use Rattle.bf_backfills.specs.Commands.{OfJournal}
-use Rattle.bf_input.specs.Inputs.{IsReadOf}
-use Rattle.bf_backfills.specs.Journals.{IsFaultOfRecorded, IsFaultOver, IsJournaledAfterFile, IsReportOver, journaled_fault}
+use Rattle.bf_input.specs.inner.Inputs.{IsReadOf}
+use Rattle.bf_backfills.specs.inner.Journals.{IsFaultOfRecorded, IsFaultOver, IsJournaledAfterFile, IsReportOver, journaled_fault}
 
 module _ (journals : Files) (asked : JournalAsked) (held : List ℕ) (is_held : OfJournal journals asked (λ told. held ≡ told)) (before : Ledger) (cleared : Heading) (dag : Dag) (found : List Interval) where
   module _ (logs : Option (List ℕ)) where

@@ -29,15 +29,9 @@ use Rattle.bf_commands.specs.Programs.{Losing, RunFault}
 use Rattle.bf_disk.specs.Files.{Files, IsReadable, IsUntold, AreReadable, IsFirstUntold}
 use Rattle.bf_input.specs.Inputs.{OfFiles, OfFilesAndTable, OfFilesAndNamedTable, graph_paths, table_paths}
 use Rattle.bf_input.specs.Moments.{Means, IsNoMoment}
-use Rattle.bf_backfills.specs.Commands.{OfJournal, IsUnopened, Startable, Machine, IsUnlaunchable, launcher_used_of, launching_asked_of, MeansCleared, MeansRange, HasNoMoment, IsNoStarts, ClearInput, clear_input, plan_input, first_paths, OfClearFiles}
+use Rattle.bf_backfills.specs.Commands.{OfJournal, IsUnopened, Machine, IsUnlaunchable, launcher_used_of, launching_asked_of, MeansCleared, MeansRange, HasNoMoment, IsNoStarts, ClearInput, clear_input, plan_input, first_paths, OfClearFiles}
 
 -- ---- why there is no answer
-
--- the launcher can't be started, or memory is wanting
-abbrev pub IsFaultOfLauncher : Startable → Option (List ℕ) → CommandFault → Type 0
-IsFaultOfLauncher startable launcher (CannotLaunch path) = IsUnlaunchable startable launcher path
-IsFaultOfLauncher startable launcher OutOfMemory = Unit {0}
-IsFaultOfLauncher startable launcher fault = ⊥
 
 -- a file can't be read, the first of those that are read in this order; or else they can be read, and have this fault; or memory is wanting
 abbrev pub IsFaultOfFiles : Files → List (List ℕ) → Type 0 → CommandFault → Type 0

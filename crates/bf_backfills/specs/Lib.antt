@@ -1,5 +1,3 @@
 pub mod Commands
-pub mod Named
 pub mod CommandFaults
-pub mod Files
-pub mod Journals
+pub mod inner

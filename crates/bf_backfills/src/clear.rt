@@ -14,9 +14,9 @@ ghost use Rattle.bf_disk.specs.Files.{AreReadable};
 ghost use Rattle.bf_input.specs.Inputs.{OfFilesAndNamedTable, clear_paths, AreAlike, IsReadingFault, bytes_of};
 ghost use Rattle.bf_backfills.specs.Commands.{IsClearAnswer, launcher_used_of, machine_of};
 ghost use Rattle.bf_backfills.specs.CommandFaults.{IsClearFault};
-ghost use Rattle.bf_backfills.specs.Files.{IsFaultAfterFile, IsOfBytes, IsPreparingFault, IsReportAfterFile};
-ghost use Rattle.bf_backfills.specs.Journals.{IsFaultAfterFileBy, IsFaultSinceFile, IsJournaledAfterFile, IsReportAfterFileBy};
-ghost use Rattle.bf_backfills.specs.Named.{IsReadFor, path_of};
+ghost use Rattle.bf_backfills.specs.inner.Files.{IsFaultAfterFile, IsOfBytes, IsPreparingFault, IsReportAfterFile};
+ghost use Rattle.bf_backfills.specs.inner.Journals.{IsFaultAfterFileBy, IsFaultSinceFile, IsJournaledAfterFile, IsReportAfterFileBy};
+ghost use Rattle.bf_backfills.specs.inner.Named.{IsReadFor, path_of};
 
 use crate::journaled::record_clearing;
 use crate::launching::{

@@ -9,7 +9,7 @@ ghost use Rattle.bf_commands.specs.Cleared.{MayAnswerBy};
 ghost use Rattle.bf_commands.specs.Programs.{launched_in};
 ghost use Rattle.bf_backfills.specs.Commands.{IsRunReportBy, OfJournal};
 ghost use Rattle.bf_input.specs.Inputs.{bytes_of};
-ghost use Rattle.bf_backfills.specs.Journals.{IsFaultOfOpening, IsFaultOfRecorded, IsFaultOfRunBy, IsFaultOver, IsReportOver, journaled_fault, of_open};
+ghost use Rattle.bf_backfills.specs.inner.Journals.{IsFaultOfOpening, IsFaultOfRecorded, IsFaultOfRunBy, IsFaultOver, IsReportOver, journaled_fault, of_open};
 
 use bf_command_fault::{CommandFault, StopFault};
 use bf_command_line::JournalAsked;

@@ -2,7 +2,7 @@
 ghost use Rattle.std.specs.Prelude.{◌≡◌, IfErr, OnOk, false, option_map, string_bytes, true};
 ghost use Rattle.bf_process.specs.Words.{launching_of};
 ghost use Rattle.bf_backfills.specs.Commands.{IsLaunchable, launching_asked_of};
-ghost use Rattle.bf_backfills.specs.CommandFaults.{IsFaultOfLauncher};
+ghost use Rattle.bf_backfills.specs.inner.CommandFaults.{IsFaultOfLauncher};
 
 use bf_command_fault::CommandFault;
 use bf_commands::{Screen, Tells};

@@ -4,7 +4,7 @@ ghost use Rattle.bf_disk.specs.Files.{AreReadable, named_paths};
 ghost use Rattle.bf_input.specs.Inputs.{IsReadingFault};
 ghost use Rattle.bf_input.specs.Moments.{IsNoMoment};
 ghost use Rattle.bf_backfills.specs.Commands.{HasNoMoment, HasUnmeantRun, MeanSeeds, MeansSeed};
-ghost use Rattle.bf_backfills.specs.Named.{IsReadFor, IsUnmeant, MeansNamed, path_of};
+ghost use Rattle.bf_backfills.specs.inner.Named.{IsReadFor, IsUnmeant, MeansNamed, path_of};
 
 use bf_command_fault::CommandFault;
 use bf_command_line::{ClearedAsked, SeedAsked};

@@ -13,7 +13,7 @@ use Rattle.bf_reason.specs.Letters.{ended_letter_of, instance_letter, letter_of}
 use Rattle.bf_reason.specs.Settled.{results_of}
 use Rattle.bf_reason.specs.Runs.{tasks_in, tasks_before, tasks_in_run}
 use Rattle.bf_cells.specs.Cells.{instances_word, letters_from}
-use Rattle.bf_cells.specs.Rows.{word_behind}
+use Rattle.bf_cells.specs.inner.Rows.{word_behind}
 
 -- what a task adds
 pub letter_more : (dag : Dag) (report : Report) (run place : ℕ) (tasks : List TaskReport) (told : TaskReport) → place < length tasks → told ≡ get_or tasks place told →

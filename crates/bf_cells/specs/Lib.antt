@@ -1,3 +1,3 @@
 pub mod Cells
-pub mod Rows
 pub mod Whole
+pub mod inner

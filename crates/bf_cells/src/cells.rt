@@ -2,7 +2,7 @@
 ghost use Rattle.std.specs.Prelude.{◌≡◌, ◌++◌, ◌∷◌, [], All, IfOk, OnOk, codes, decimal, length, map, string_bytes};
 ghost use Rattle.std.specs.List.{enumerate_from, flat_map};
 ghost use Rattle.bf_cells.specs.Cells.{cells_text, letters_from, row};
-ghost use Rattle.bf_cells.specs.Rows.{word_behind};
+ghost use Rattle.bf_cells.specs.inner.Rows.{word_behind};
 ghost use Rattle.bf_moment.specs.Moment.{moment_text};
 ghost use Rattle.bf_reason.specs.Letters.{ended_letter_of};
 ghost use Rattle.bf_reason.specs.Runs.{tasks_in, tasks_before};

@@ -11,7 +11,7 @@ use Rattle.bf_read.specs.declared.draft.TaskDraft.{TaskDraft}
 use Rattle.bf_check.specs.declared.fault.TaskFault.{TaskFault}
 use Rattle.bf_check.specs.declared.fault.TaskFault.TheVariants.{UnknownUpstream, UnknownPool, SlotsBeyondPool, BadRule, PullNotSettled, ExpandSource, ExpandRule, BranchMisuse}
 use Rattle.bf_check.specs.Checking.{shape_in}
-use Rattle.bf_check.specs.Looks.{IsPlaceOfFirst}
+use Rattle.bf_check.specs.inner.Looks.{IsPlaceOfFirst}
 use Rattle.bf_check.specs.Refusals.{refusal_number_of, Has, NoneHas, HasNoneBelow, HasNoFault}
 use Rattle.bf_plan.proofs.ListLemmas.{some_same}
 use Rattle.bf_graph.proofs.Places.{none_passing}

@@ -10,7 +10,7 @@ use Rattle.bf_read.specs.declared.draft.TaskDraft.{TaskDraft}
 use Rattle.bf_read.specs.declared.draft.WordDraft.{WordDraft}
 use Rattle.bf_read.specs.Drafts.{distinct_texts_of, pulled_by, pulled_in}
 use Rattle.bf_check.specs.Checking.{number_of, number_or_0}
-use Rattle.bf_check.specs.Looks.{numbers_in, source_found}
+use Rattle.bf_check.specs.inner.Looks.{numbers_in, source_found}
 use Rattle.bf_check.specs.Refusals.{is_no_upstream}
 use Rattle.bf_graph.proofs.Places.{none_passing}
 use Rattle.bf_check.proofs.ListLemmas.{map_more}

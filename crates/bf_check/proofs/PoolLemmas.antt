@@ -16,7 +16,7 @@ use Rattle.bf_read.specs.declared.draft.PoolDraft.{PoolDraft}
 use Rattle.bf_read.specs.Drafts.{StandByName}
 use Rattle.bf_check.specs.Checking.{default_pool, names_default_pool_in, pool_number, pools_in}
 use Rattle.bf_check.specs.declared.pools.TaskPool.{TaskPool}
-use Rattle.bf_check.specs.Looks.{pool_named_of, with_size}
+use Rattle.bf_check.specs.inner.Looks.{pool_named_of, with_size}
 use Rattle.bf_plan.proofs.ListLemmas.{some_same}
 use Rattle.bf_graph.proofs.Places.{placed, missing, none_passing}
 

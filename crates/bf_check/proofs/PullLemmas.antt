@@ -16,7 +16,7 @@ use Rattle.bf_check.specs.declared.pulls.Pulls.{Pulls}
 use Rattle.bf_plan.specs.Plans.{no_task, task_of}
 use Rattle.bf_plan.specs.Sound.{IsOneOf, IsSettledAncestor, Direct, Above}
 use Rattle.bf_check.specs.Checking.{ids_of, number_or_0, rule_of, task_in, dag_of, shape_in}
-use Rattle.bf_check.specs.Looks.{numbers_in, pulls_in, settling_upstreams, settling_edges_of, AllMayPull, IsFoundOfPulls, IsPlaceOfFirst}
+use Rattle.bf_check.specs.inner.Looks.{numbers_in, pulls_in, settling_upstreams, settling_edges_of, AllMayPull, IsFoundOfPulls, IsPlaceOfFirst}
 use Rattle.bf_check.specs.Refusals.{MayPull, PullsUnsettled}
 use Rattle.bf_plan.proofs.PlanLemmas.{contains_one, one_contained}
 use Rattle.bf_check.proofs.FaultLemmas.{first_told}

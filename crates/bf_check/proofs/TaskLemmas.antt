@@ -9,7 +9,7 @@ use Rattle.bf_read.specs.declared.draft.TaskDraft.{TaskDraft}
 use Rattle.bf_rule.specs.declared.rule.Rule.{Rule}
 use Rattle.bf_check.specs.declared.pulls.Pulls.{Pulls}
 use Rattle.bf_check.specs.Checking.{ids_of, number_or_0, rule_of, shape_in}
-use Rattle.bf_check.specs.Looks.{links_in, pulls_in, source_in, AreFound, HasLinks}
+use Rattle.bf_check.specs.inner.Looks.{links_in, pulls_in, source_in, AreFound, HasLinks}
 use Rattle.bf_plan.proofs.ListLemmas.{some_same}
 use Rattle.bf_check.proofs.ListLemmas.{next_there, pair_at}
 

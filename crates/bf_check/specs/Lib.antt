@@ -1,4 +1,4 @@
 pub mod Checking
 pub mod Schedules
 pub mod Refusals
-pub mod Looks
+pub mod inner

@@ -2,7 +2,7 @@
 ghost use Rattle.std.specs.Prelude.{◌≡◌, map, option_map, IfOk, IfErr, OnOk};
 ghost use Rattle.bf_graph.specs.Ranks.{Ranking};
 ghost use Rattle.bf_check.specs.Checking.{dag_of, limits_in, rule_of, shape_in};
-ghost use Rattle.bf_check.specs.Looks.{AllMayPull, AreFoundIn};
+ghost use Rattle.bf_check.specs.inner.Looks.{AllMayPull, AreFoundIn};
 ghost use Rattle.bf_check.specs.Refusals.{HasNoFault, HasNoneBelow, IsAccepted, IsFaultOf};
 ghost use Rattle.bf_check.specs.Schedules.{Fires, IsScheduled, IsZoneFor};
 

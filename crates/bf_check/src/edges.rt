@@ -5,7 +5,7 @@ ghost use Rattle.bf_graph.specs.Edges.{lists};
 ghost use Rattle.bf_graph.specs.Ranks.{Ranking};
 ghost use Rattle.bf_graph.specs.Shape.{texts};
 ghost use Rattle.bf_check.specs.Checking.{ids_of, shape_in};
-ghost use Rattle.bf_check.specs.Looks.{numbers_in};
+ghost use Rattle.bf_check.specs.inner.Looks.{numbers_in};
 ghost use Rattle.bf_check.specs.Refusals.{HasNoneBelow, IsFaultOf};
 
 use crate::fault::{CheckFault, TaskFault};

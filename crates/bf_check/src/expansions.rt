@@ -3,7 +3,7 @@ ghost use Rattle.std.specs.Prelude.{◌≡◌, ◌&&◌, ℕ, List, length, map,
 ghost use Rattle.std.specs.List.{zip};
 ghost use Rattle.bf_rule.specs.Verdicts.{is_waiting};
 ghost use Rattle.bf_check.specs.Checking.{number_or_0, rule_of, shape_in};
-ghost use Rattle.bf_check.specs.Looks.{source_found, source_in};
+ghost use Rattle.bf_check.specs.inner.Looks.{source_found, source_in};
 ghost use Rattle.bf_check.specs.Refusals.{expands_branch, HasNoFault, HasNoneBelow, IsFaultOf};
 ghost use Rattle.bf_check.specs.Schedules.{IsScheduled};
 

@@ -1,7 +1,7 @@
 //! Looking through a draft for faults: of all tasks that have one the first in the file is named.
 ghost use Rattle.std.specs.Prelude.{◌≡◌, ◌<◌, suc, is_none, map, option_map, position, None, Some, IfOk, IfErr, OnOk};
 ghost use Rattle.bf_check.specs.Checking.{ids_of};
-ghost use Rattle.bf_check.specs.Looks.{IsPlaceOfFirst};
+ghost use Rattle.bf_check.specs.inner.Looks.{IsPlaceOfFirst};
 ghost use Rattle.bf_check.specs.Refusals.{refusal_number_of, HasNoneBelow, IsFaultOf};
 ghost use Rattle.bf_check.specs.Schedules.{IsScheduled};
 

@@ -6,7 +6,7 @@ ghost use Rattle.bf_graph.specs.Edges.{lists, AreInRange};
 ghost use Rattle.bf_graph.specs.Reach.{Reaches};
 ghost use Rattle.bf_rule.specs.Verdicts.{is_waiting};
 ghost use Rattle.bf_check.specs.Checking.{rule_of, shape_in};
-ghost use Rattle.bf_check.specs.Looks.{pulls_in, settling_edges_of, AllMayPull, IsFoundOfPulls};
+ghost use Rattle.bf_check.specs.inner.Looks.{pulls_in, settling_edges_of, AllMayPull, IsFoundOfPulls};
 ghost use Rattle.bf_check.specs.Refusals.{HasNoneBelow, IsFaultOf};
 ghost use Rattle.bf_check.specs.Schedules.{IsScheduled};
 

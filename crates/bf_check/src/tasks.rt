@@ -6,7 +6,7 @@ ghost use Rattle.bf_rule.specs.declared.rule.Rule.{Rule};
 ghost use Rattle.bf_read.specs.Limits.{most_pulls, most_tasks};
 ghost use Rattle.bf_read.specs.Drafts.{IsTask, pulled_by, pulled_in};
 ghost use Rattle.bf_check.specs.Checking.{ids_of, task_in, word_in};
-ghost use Rattle.bf_check.specs.Looks.{links_in, AreFound, HasLinks};
+ghost use Rattle.bf_check.specs.inner.Looks.{links_in, AreFound, HasLinks};
 
 use crate::edges::place_of;
 use crate::pulls::Pulls;

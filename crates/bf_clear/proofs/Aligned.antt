@@ -17,8 +17,9 @@ use Rattle.bf_plan.specs.declared.plan.Dag.{Dag}
 use Rattle.bf_interval.specs.declared.interval.Interval.{Interval}
 use Rattle.bf_report.specs.declared.report.Report.{Report}
 use Rattle.bf_report.specs.declared.report.RunReport.{RunReport}
-use Rattle.bf_clear.specs.Aligning.{AreAligned, AreAlignedBy, AreApart, IsAligned, is_over, tasks_at, tasks_in, tasks_told, told_at}
-use Rattle.bf_clear.specs.Entries.{IsWithin}
+use Rattle.bf_clear.specs.Aligning.{AreAligned, IsAligned, is_over, tasks_at, tasks_in, tasks_told, told_at}
+use Rattle.bf_clear.specs.inner.Aligning.{AreAlignedBy, AreApart}
+use Rattle.bf_clear.specs.inner.Entries.{IsWithin}
 use Rattle.bf_clear.specs.Matching.{is_same_interval_in}
 use Rattle.bf_clear.proofs.Within.{sized_within}
 

@@ -14,7 +14,8 @@ use Rattle.bf_dependents.specs.declared.place.Place.{Place}
 use Rattle.bf_dependents.specs.Listing.{up_to}
 use Rattle.bf_dependents.proofs.Listed.{in_up_to, up_to_has}
 use Rattle.bf_clear.specs.Entries.{found_at, instance_in, report_at}
-use Rattle.bf_clear.specs.Failing.{count_at, count_of, failed_at, failed_of_run, failed_of_task_in, failed_place, AreFailed, HasFailed, IsOfFailed}
+use Rattle.bf_clear.specs.Failing.{AreFailed, HasFailed, IsOfFailed}
+use Rattle.bf_clear.specs.inner.Failing.{count_at, count_of, failed_at, failed_of_run, failed_of_task_in, failed_place}
 
 -- ---- one instance
 

@@ -6,7 +6,8 @@ use Rattle.bf_report.specs.declared.report.InstanceReport.{InstanceReport}
 use Rattle.bf_report.specs.declared.report.Report.{Report}
 use Rattle.bf_dependents.specs.declared.place.Place.{Place}
 use Rattle.bf_dependents.specs.Dependents.{has_instance_in, AreDependents, Following, IsBeside}
-use Rattle.bf_clear.specs.Entries.{entry_by, found_at, told, IsWithin}
+use Rattle.bf_clear.specs.Entries.{entry_by, found_at, told}
+use Rattle.bf_clear.specs.inner.Entries.{IsWithin}
 use Rattle.bf_clear.specs.Keeping.{AreKept, Clearance, fitting, kept_in, kept_of}
 
 -- ---- what the report tells of

@@ -6,7 +6,8 @@ use Rattle.bf_report.specs.declared.report.InstanceReport.{InstanceReport}
 use Rattle.bf_kept.specs.Kept.{IsAnsweredBy}
 use Rattle.bf_dependents.specs.Dependents.{has_instance_in}
 use Rattle.bf_clear.specs.Entries.{entry_by, entry_of_try, found_at, given_by, outcome_of_try_in, told, given_by_values_in}
-use Rattle.bf_clear.specs.Keeping.{Clearance, fit_outcome, fitting, kept_in, kept_of, IsAnswerOf, IsRawFor}
+use Rattle.bf_clear.specs.Keeping.{Clearance, fitting, kept_in, kept_of}
+use Rattle.bf_clear.specs.inner.Keeping.{fit_outcome, IsAnswerOf, IsRawFor}
 
 -- what is kept is looked up in one way or the other
 answers_same : (kept other : Ledger) (n : JobName) (given : Given) (o : Option Raw) → kept n ≡ other n → IsAnsweredBy other n given o → IsAnsweredBy kept n given o

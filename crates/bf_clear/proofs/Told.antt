@@ -20,7 +20,8 @@ use Rattle.bf_report.specs.declared.report.TaskReport.{TaskReport}
 use Rattle.bf_report.specs.declared.report.RunReport.{RunReport}
 use Rattle.bf_report.specs.declared.report.Report.{Report}
 use Rattle.bf_report.specs.Dated.{pulls_in, instance_report, reported, reported_instance, reported_instances, cell_by, reports_from, AreDated, IsDated}
-use Rattle.bf_clear.specs.Entries.{report_at, instance_in, found_at, given_in, entry_by, entry_of_try, outcome_of_try_in, told, IsWithin}
+use Rattle.bf_clear.specs.Entries.{report_at, instance_in, found_at, given_in, entry_by, entry_of_try, outcome_of_try_in, told}
+use Rattle.bf_clear.specs.inner.Entries.{IsWithin}
 
 -- ---- tries
 

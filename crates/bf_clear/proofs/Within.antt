@@ -11,7 +11,8 @@ use Rattle.bf_report.specs.declared.report.Version.{Version}
 use Rattle.bf_report.specs.declared.report.RunReport.{RunReport}
 use Rattle.bf_report.specs.declared.report.TaskReport.{TaskReport}
 use Rattle.bf_report.specs.declared.report.Report.{Report}
-use Rattle.bf_clear.specs.Entries.{instance_in, IsWithin}
+use Rattle.bf_clear.specs.Entries.{instance_in}
+use Rattle.bf_clear.specs.inner.Entries.{IsWithin}
 use Rattle.bf_clear.specs.Matching.{are_ids_in, are_runs_in, are_tasks_in, is_report_in, is_run_in, is_same_interval_in}
 
 -- each run that is told of is of the plan

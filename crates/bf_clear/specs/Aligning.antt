@@ -1,5 +1,5 @@
 -- What a report tells of the tasks of a plan and of runs, however many others it tells of: by the ids of tasks and the data intervals of runs.
-use Rattle.std.specs.Prelude.{◌≡◌, ℕ, Bool, List, [], ◌∷◌, AllPairs, map, Option, Some, None, option_and_then, slice_get}
+use Rattle.std.specs.Prelude.{◌≡◌, ℕ, Bool, List, [], ◌∷◌, map, Option, Some, None, option_and_then, slice_get}
 use Rattle.std.specs.List.{find, position}
 use Rattle.std.specs.Str.{bytes_eq}
 use Rattle.bf_interval.specs.declared.interval.Interval.{Interval}
@@ -63,18 +63,3 @@ pub record AreKeptByIds (dag : Dag) (intervals : List Interval) (seeds : List Pl
 -- the report is one of another graph
 abbrev pub keep_fault : Dag → Report → Option ClearFault
 keep_fault dag report = fault_after None (bytes_eq report.dag_id dag.id)
-
--- ---- for private clauses
-
--- no two tasks stand at one place
-abbrev pub AreApart : List (Option ℕ) → Type 0
-AreApart places = AllPairs (λ one other. one ≡ other → one ≡ None) places
-
--- of each run what is told of it, by the places of the tasks
-abbrev pub AreAlignedBy : List (Option ℕ) → List RunReport → List Interval → List RunReport → Type 0
-AreAlignedBy places told [] [] = Unit {0}
-AreAlignedBy places told (interval ∷ intervals) (run ∷ runs) =
-    (run.interval ≡ interval) × (run.tasks ≡ map (told_at (tasks_at told interval)) places)
-    × AreAlignedBy places told intervals runs
-AreAlignedBy places told [] (run ∷ runs) = ⊥
-AreAlignedBy places told (interval ∷ intervals) [] = ⊥

@@ -1,5 +1,5 @@
 -- The tries that a report tells of.
-use Rattle.std.specs.Prelude.{◌≡◌, ◌<◌, ℕ, zero, ℤ, pos, negsuc, ◌==◌, ◌&&◌, nat_lt, if◌then◌else◌, List, [], ◌∷◌, length, map, Option, Some, None, option_map, option_and_then, slice_get}
+use Rattle.std.specs.Prelude.{ℕ, zero, ℤ, pos, negsuc, ◌==◌, ◌&&◌, nat_lt, if◌then◌else◌, List, [], ◌∷◌, map, Option, Some, None, option_map, option_and_then, slice_get}
 use Rattle.bf_value.specs.declared.xval.Xval.{Xval}
 use Rattle.bf_value.specs.declared.xval.Xval.TheVariants.{List as ListOf}
 use Rattle.bf_value.specs.Views.{xvals_of}
@@ -112,9 +112,3 @@ unfoldable pub told : Dag → Report → Ledger
 told dag report name =
     entry_by report.version (given_by_values_in dag report name.run name.task name.index)
     (found_at report name.run name.task name.index) name.attempt
-
--- what stands in the report is of tasks and runs that are there
-abbrev pub IsWithin : Dag → ℕ → Report → Type 0
-IsWithin dag runs report =
-    (run task : ℕ) (index : ℤ) (instance : InstanceReport) → found_at report run task index
-    ≡ Some instance → (run < runs) × (task < length dag.tasks)

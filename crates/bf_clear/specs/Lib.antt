@@ -3,3 +3,4 @@ pub mod Keeping
 pub mod Failing
 pub mod Matching
 pub mod Aligning
+pub mod inner

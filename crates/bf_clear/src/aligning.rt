@@ -5,7 +5,8 @@ ghost use Rattle.std.specs.Str.{bytes_eq};
 ghost use Rattle.bf_interval.specs.Intervals.{IsShownInterval};
 ghost use Rattle.bf_interval.specs.Runs.{AreOfRuns};
 ghost use Rattle.bf_interval.specs.declared.interval.Interval.{Interval};
-ghost use Rattle.bf_clear.specs.Aligning.{AreAlignedBy, AreApart, IsAligned, is_over, tasks_at, told_at};
+ghost use Rattle.bf_clear.specs.Aligning.{IsAligned, is_over, tasks_at, told_at};
+ghost use Rattle.bf_clear.specs.inner.Aligning.{AreAlignedBy, AreApart};
 
 use crate::matching::is_same_interval;
 use bf_interval::{Interval, Runs};

@@ -3,7 +3,7 @@ ghost use Rattle.std.specs.Prelude.{◌≡◌, [], None, IfOk, IfErr, length};
 ghost use Rattle.bf_kept.specs.Kept.{AreFit};
 ghost use Rattle.bf_dependents.specs.Dependents.{AreDependents};
 ghost use Rattle.bf_clear.specs.Aligning.{keep_fault, AreKeptByIds};
-ghost use Rattle.bf_clear.specs.Entries.{IsWithin};
+ghost use Rattle.bf_clear.specs.inner.Entries.{IsWithin};
 ghost use Rattle.bf_clear.specs.Keeping.{kept_in, AreKept};
 ghost use Rattle.bf_clear.specs.Matching.{clear_fault, refusal};
 

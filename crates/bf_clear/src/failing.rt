@@ -2,7 +2,8 @@
 ghost use Rattle.std.specs.Prelude.{◌≡◌, ◌≤◌, ◌++◌, IfOk, OnOk};
 ghost use Rattle.bf_try.specs.Tries.{is_failed};
 ghost use Rattle.bf_dependents.specs.Listing.{up_to};
-ghost use Rattle.bf_clear.specs.Failing.{count_at, failed_at, failed_of_run, failed_of_task_in, AreFailed};
+ghost use Rattle.bf_clear.specs.Failing.{AreFailed};
+ghost use Rattle.bf_clear.specs.inner.Failing.{count_at, failed_at, failed_of_run, failed_of_task_in};
 
 use crate::looking::{instance_at, task_at};
 use bf_dependents::Place;

@@ -1,7 +1,7 @@
 //! What a report tells of a try.
 ghost use Rattle.std.specs.Prelude.{◌≡◌, ◌<◌, ◌↔◌, length, map, Some, IsTrue, IfOk};
 ghost use Rattle.bf_clear.specs.Entries.{given_by, given_in, outcome_of_try_in, given_by_values_in};
-ghost use Rattle.bf_clear.specs.Keeping.{fit_outcome, IsAnswerOf, IsRawFor};
+ghost use Rattle.bf_clear.specs.inner.Keeping.{fit_outcome, IsAnswerOf, IsRawFor};
 
 use crate::given::is_given_by_values;
 use bf_plan::Plan;

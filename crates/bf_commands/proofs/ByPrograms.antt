@@ -9,7 +9,8 @@ use Rattle.bf_exec.specs.Faults.{MayFail}
 use Rattle.bf_command_fault.specs.declared.fault.CommandFault.{CommandFault}
 use Rattle.bf_command_fault.specs.declared.fault.CommandFault.TheVariants.{OutOfMemory, Stopped}
 use Rattle.bf_command_fault.specs.declared.stop.StopFault.{StopFault}
-use Rattle.bf_commands.specs.Programs.{IsGivenUp, IsStopOf, IsStopOfOrWanting, IsToldOf}
+use Rattle.bf_commands.specs.Programs.{IsStopOf}
+use Rattle.bf_commands.specs.inner.Programs.{IsGivenUp, IsStopOfOrWanting, IsToldOf}
 
 -- what is told of a fault that may be tells of a stop that may be
 module _ (may_give_up : JobName → Given → Type 0) (logs : Option (List ℕ)) (dag : Dag) (intervals : List Interval) where

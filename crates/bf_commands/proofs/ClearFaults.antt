@@ -18,7 +18,8 @@ use Rattle.bf_command_fault.specs.declared.fault.CommandFault.{CommandFault}
 use Rattle.bf_command_fault.specs.declared.fault.CommandFault.TheVariants.{Clear as NotCleared, OutOfMemory, Seeds as BadSeeds}
 use Rattle.bf_commands.specs.declared.cleared.ToClear.{ToClear}
 use Rattle.bf_planning.specs.declared.range.RunRange.{RunRange}
-use Rattle.bf_commands.specs.Cleared.{report_fault, AreAnswersIn, AreCleared, ClearingFault, IsFaultBefore, IsFaultOfNamed, IsKeptOf, IsPrepared, IsStopOrWantingFrom, IsUncleared, IsUnknown}
+use Rattle.bf_commands.specs.Cleared.{report_fault, AreAnswersIn, AreCleared, ClearingFault, IsFaultBefore, IsKeptOf, IsPrepared, IsUncleared, IsUnknown}
+use Rattle.bf_commands.specs.inner.Cleared.{IsFaultOfNamed, IsStopOrWantingFrom}
 use Rattle.bf_planning.specs.Graphs.{IsPlanOf}
 use Rattle.bf_planning.specs.Lists.{HasListing, IsRangeFault}
 use Rattle.bf_planning.specs.Clocks.{AreClocksOf}

@@ -23,16 +23,18 @@ use Rattle.bf_command_fault.specs.declared.fault.CommandFault.TheVariants.{Table
 use Rattle.bf_command_fault.specs.declared.range.RangeFault.{RangeFault}
 use Rattle.bf_command_fault.specs.declared.stop.StopFault.{StopFault}
 use Rattle.bf_planning.specs.declared.range.RunRange.{RunRange}
-use Rattle.bf_commands.specs.Cleared.{IsStopOrWantingAnew, IsStopOrWantingFrom}
+use Rattle.bf_commands.specs.inner.Cleared.{IsStopOrWantingAnew, IsStopOrWantingFrom}
 use Rattle.bf_commands.specs.DatedRuns.{DryFault, IsDryReport}
 use Rattle.bf_planning.specs.Graphs.{IsFaultIn, IsPlanOf}
 use Rattle.bf_planning.specs.Lists.{HasListing, IsRangeFault}
 use Rattle.bf_commands.specs.OneRun.{SingleFault, IsSingleReport}
-use Rattle.bf_commands.specs.OverTable.{AnswersByTable, TableReport, IsWantingWorkers}
+use Rattle.bf_commands.specs.OverTable.{AnswersByTable, TableReport}
+use Rattle.bf_commands.specs.inner.OverTable.{IsWantingWorkers}
 use Rattle.bf_planning.specs.Tables.{IsTableFault}
 use Rattle.bf_planning.specs.Wanting.{IsWanting}
 use Rattle.bf_planning.specs.Clocks.{AreClocksOf}
-use Rattle.bf_commands.specs.Programs.{Hearing, RunFault, IsRunReport, IsStop, IsStopOf, IsStopOfOrWanting, Losing, MayGiveUpLaunched, StopsRunning, launched_by, with_clocks}
+use Rattle.bf_commands.specs.Programs.{Hearing, RunFault, IsRunReport, IsStop, IsStopOf, Losing, MayGiveUpLaunched, StopsRunning, launched_by, with_clocks}
+use Rattle.bf_commands.specs.inner.Programs.{IsStopOfOrWanting}
 use Rattle.bf_commands.specs.Reported.{IsReportBy, IsReportFrom}
 use Rattle.bf_commands.proofs.ByPrograms.{stop_weaker}
 use Rattle.bf_commands.proofs.FromKept.{from_nothing}

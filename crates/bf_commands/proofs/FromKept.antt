@@ -21,7 +21,8 @@ use Rattle.bf_commands.specs.declared.cleared.ToClear.{ToClear}
 use Rattle.bf_commands.specs.Cleared.{IsKeptOf, IsReportAfter, MayAnswerBy}
 use Rattle.bf_commands.specs.OverTable.{AnswersByTable, answering}
 use Rattle.bf_commands.specs.Programs.{HearingTries}
-use Rattle.bf_commands.specs.Reported.{IsEndFrom, IsReportBy, IsReportFrom, IsReportOf}
+use Rattle.bf_commands.specs.Reported.{IsReportBy, IsReportFrom, IsReportOf}
+use Rattle.bf_commands.specs.inner.Reported.{IsEndFrom}
 
 -- ---- ends
 

@@ -8,7 +8,8 @@ use Rattle.bf_plan.specs.declared.plan.Dag.{Dag}
 use Rattle.bf_interval.specs.declared.interval.Interval.{Interval}
 use Rattle.bf_dependents.specs.declared.place.Place.{Place}
 use Rattle.bf_journal.specs.declared.head.ClearedTask.{ClearedTask}
-use Rattle.bf_commands.specs.Journaled.{AddsTold, Heading, IsToldOf, TellsFirst, TellsOf}
+use Rattle.bf_commands.specs.Journaled.{Heading, IsToldOf, TellsFirst, TellsOf}
+use Rattle.bf_commands.specs.inner.Journaled.{AddsTold}
 
 module _ (dag : Dag) (intervals : List Interval) where
   -- of one place more nothing is told, whose run isn't there

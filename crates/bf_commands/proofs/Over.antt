@@ -14,7 +14,7 @@ use Rattle.bf_table.specs.declared.table.TableEntry.{TableEntry}
 use Rattle.bf_table.specs.Tables.{Answering, dates_in}
 use Rattle.bf_moment.specs.Moment.{IsShown}
 use Rattle.bf_commands.specs.OverTable.{answering}
-use Rattle.bf_commands.specs.Reported.{IsEndFrom}
+use Rattle.bf_commands.specs.inner.Reported.{IsEndFrom}
 
 -- a runner over the starts of the intervals answers as the table does for them
 pub answering_by : (dag : Dag) (table : List TableEntry) (intervals : List Interval) (starts : List Timestamp) (runner : Answering) → runner ≡ record { dag = dag; dates = dates_in starts; entries = table } → starts ≡ map (λ i. i.start) intervals

@@ -17,7 +17,8 @@ use Rattle.bf_command_fault.specs.Refusal.{Leaves, of_journal}
 use Rattle.bf_command_fault.specs.declared.fault.CommandFault.{CommandFault}
 use Rattle.bf_command_fault.specs.declared.fault.CommandFault.TheVariants.{CannotWrite, Journal, OutOfMemory, Stopped}
 use Rattle.bf_command_fault.specs.declared.stop.StopFault.{StopFault}
-use Rattle.bf_commands.specs.Journaled.{HasTries, Heading, IsFaultOfJournal, JournalReportFault, IsStopRecordedOrWanting, IsToldAt, IsToldOfRecorded}
+use Rattle.bf_commands.specs.Journaled.{HasTries, Heading, JournalReportFault}
+use Rattle.bf_commands.specs.inner.Journaled.{IsFaultOfJournal, IsStopRecordedOrWanting, IsToldAt, IsToldOfRecorded}
 use Rattle.bf_planning.specs.Wanting.{IsWanting}
 
 -- ---- what is told of what stopped one

@@ -33,11 +33,10 @@ use Rattle.bf_commands.specs.declared.cleared.ToClear.TheVariants as to_clear
 use Rattle.bf_planning.specs.declared.range.RunRange.{RunRange}
 use Rattle.bf_planning.specs.Graphs.{IsFaultIn, IsGraph}
 use Rattle.bf_planning.specs.Lists.{HasListing}
-use Rattle.bf_commands.specs.OverTable.{AnswersByTable, IsWantingWorkers}
-use Rattle.bf_planning.specs.Tables.{IsTableFault}
+use Rattle.bf_commands.specs.OverTable.{AnswersByTable}
 use Rattle.bf_planning.specs.Wanting.{IsWanting}
 use Rattle.bf_planning.specs.Clocks.{AreClocksOf}
-use Rattle.bf_commands.specs.Programs.{Hearing, HearingTries, IsStopOf, IsStopOfOrWanting, Losing, MayGiveUpLaunched, launched_by, with_clocks}
+use Rattle.bf_commands.specs.Programs.{Hearing, HearingTries, IsStopOf, Losing, MayGiveUpLaunched, launched_by, with_clocks}
 use Rattle.bf_commands.specs.Reported.{IsReportFrom}
 
 -- the answers of the table where there is one, and else what is heard of tries
@@ -211,31 +210,3 @@ pub record StopsClearing (alone : Bool) (launching : LaunchingOf) (may_lose : Lo
   pub kept_is : IsKeptOf ready.dag ready.found was what kept
   pub stops : IsStopFrom alone kept
       (with_clocks launching ready.clocks) may_lose ready.answers ready.dag ready.found stop
-
--- ---- for private clauses
-
--- the backfill with programs that goes on from what is kept stops, at no try that is kept; or memory or the device is wanting
-abbrev pub IsStopOrWantingAnew : Ledger → LaunchingOf → Losing → Dag → List Interval → CommandFault
-    → Type 0
-IsStopOrWantingAnew kept launching may_lose dag intervals fault =
-    IsStopOfOrWanting (MayGiveUpAnew kept
-    (MayGiveUpLaunched launching may_lose dag intervals)) launching.logs dag intervals fault
-
--- where a table answers and workers are started, one can't be; else it stops as one of programs does; or memory or the device is
--- wanting
-abbrev pub IsStopOrWantingFrom : Bool → Ledger → LaunchingOf → Losing → Option (List TableEntry)
-    → Dag → List Interval → CommandFault → Type 0
-IsStopOrWantingFrom alone kept launching may_lose (Some entries) dag intervals fault =
-    IsWantingWorkers alone fault
-IsStopOrWantingFrom alone kept launching may_lose None dag intervals fault =
-    IsStopOrWantingAnew kept launching may_lose dag intervals fault
-
--- the fault is that of the table's bytes, where there are some
-abbrev pub IsFaultOfNamed : Option (List ℕ) → CommandFault → Type 0
-IsFaultOfNamed table fault = (bytes : List ℕ) × (table ≡ Some bytes) × IsTableFault bytes fault
-
--- the first task of the seeds that is unknown, and else a run, is the fault; or memory is wanting
-abbrev pub IsUnknownNamed : Dag → List Interval → List Seed → CommandFault → Type 0
-IsUnknownNamed dag intervals seeds (NotCleared fault) = seed_fault dag intervals seeds ≡ Some fault
-IsUnknownNamed dag intervals seeds OutOfMemory = Unit {0}
-IsUnknownNamed dag intervals seeds fault = ⊥

@@ -1,5 +1,5 @@
 -- What is reported of a backfill that records its tries: it goes on from those of its journal, and else from those that were kept before.
-use Rattle.std.specs.Prelude.{◌≡◌, ℕ, ℤ, Bool, List, [], ◌∷◌, ◌++◌, slice_get, Option, Some, None, Ok}
+use Rattle.std.specs.Prelude.{◌≡◌, ℕ, ℤ, Bool, List, [], ◌∷◌, slice_get, Option, Some, None, Ok}
 use Rattle.bf_value.specs.declared.name.JobName.{JobName}
 use Rattle.bf_read.specs.declared.draft.Draft.{Draft}
 use Rattle.bf_check.specs.Checking.{dag_of}
@@ -10,7 +10,6 @@ use Rattle.bf_xcom.specs.declared.values.Given.{Given}
 use Rattle.bf_try.specs.declared.answers.Raw.{Raw}
 use Rattle.bf_try.specs.Tries.{Ledger}
 use Rattle.bf_table.specs.declared.table.TableEntry.{TableEntry}
-use Rattle.bf_core.specs.declared.fault.BackfillFault.{BackfillFault}
 use Rattle.bf_kept.specs.Kept.{IsNew, nothing}
 use Rattle.bf_process.specs.Words.{LaunchingOf, MayAnswer}
 use Rattle.bf_journal.specs.declared.head.ClearedTask.{ClearedTask}
@@ -21,7 +20,7 @@ use Rattle.bf_journal.specs.Since.{left_of, since}
 use Rattle.bf_report.specs.declared.report.Report.{Report}
 use Rattle.bf_dependents.specs.declared.place.Place.{Place}
 use Rattle.bf_command_fault.specs.declared.fault.CommandFault.{CommandFault}
-use Rattle.bf_command_fault.specs.declared.fault.CommandFault.TheVariants.{Journal as BadJournal, OutOfMemory, Stopped}
+use Rattle.bf_command_fault.specs.declared.fault.CommandFault.TheVariants.{Journal as BadJournal, Stopped}
 use Rattle.bf_command_fault.specs.declared.stop.StopFault.{StopFault}
 use Rattle.bf_commands.specs.declared.cleared.ToClear.{ToClear}
 use Rattle.bf_planning.specs.declared.range.RunRange.{RunRange}
@@ -31,7 +30,7 @@ use Rattle.bf_planning.specs.Graphs.{IsGraph}
 use Rattle.bf_planning.specs.Lists.{HasListing}
 use Rattle.bf_planning.specs.Wanting.{IsWanting}
 use Rattle.bf_planning.specs.Clocks.{AreClocksOf}
-use Rattle.bf_commands.specs.Programs.{Hearing, HearingTries, IsGivenUp, IsStopOf, launched_by}
+use Rattle.bf_commands.specs.Programs.{Hearing, HearingTries, IsStopOf, launched_by}
 use Rattle.bf_commands.specs.Reported.{IsReportFrom}
 
 -- what the head of a journal tells of what is cleared
@@ -181,42 +180,3 @@ pub record GoesWrongClearing (most : Option ℕ) (logs : Option (List ℕ)) (gra
   pub clearable : IsClearable graph file table report range what
   pub fault_is : JournalReportFault most clearable.kept retry held clearable.cleared logs
       clearable.ready.dag clearable.ready.found fault
-
--- ---- for private clauses
-
--- what is told of one place more, where its run is there
-abbrev pub AddsTold : Dag → Option Interval → Place → Heading → Heading → Type 0
-AddsTold dag None place before cleared = cleared ≡ before
-AddsTold dag (Some interval) place before cleared =
-    (more : ClearedTask) × IsToldOf dag interval place more × (cleared ≡ before ++ more ∷ [])
-
--- the journal is refused; or a write to it fails; or memory is wanting
-abbrev pub IsFaultOfJournal : Dag → List Interval → Heading → List ℕ → CommandFault → Type 0
-IsFaultOfJournal dag intervals cleared held (BadJournal fault) =
-    IsFault dag intervals (head_text dag intervals cleared) held fault
-IsFaultOfJournal dag intervals cleared held (Stopped StopFault.CannotRecord) = Unit {0}
-IsFaultOfJournal dag intervals cleared held OutOfMemory = Unit {0}
-IsFaultOfJournal dag intervals cleared held fault = ⊥
-
--- a backfill that records its tries stops; or memory or the device is wanting
-abbrev pub IsStopRecordedOrWanting : Option ℕ → Ledger → Option (List ℕ) → Dag → List Interval
-    → CommandFault → Type 0
-IsStopRecordedOrWanting most kept logs dag intervals (Stopped stop) =
-    IsStopRecorded most kept logs dag intervals stop
-IsStopRecordedOrWanting most kept logs dag intervals fault = IsWanting fault
-
--- what is told of a try that was given up while tries were recorded: why no further one was begun, or the try
-abbrev pub IsToldAt : Option ℕ → Option (List ℕ) → Dag → List Interval → JobName → CommandFault
-    → Type 0
-IsToldAt most logs dag intervals name (Stopped StopFault.CannotRecord) = Unit {0}
-IsToldAt most logs dag intervals name (Stopped (StopFault.EnoughFailed count)) = most ≡ Some count
-IsToldAt most logs dag intervals name fault = IsGivenUp logs dag intervals name fault
-
--- what is told of what stopped a backfill that records its tries
-abbrev pub IsToldOfRecorded : Option ℕ → Option (List ℕ) → Dag → List Interval → BackfillFault
-    → CommandFault → Type 0
-IsToldOfRecorded most logs dag intervals BackfillFault.OutOfMemory told = told ≡ OutOfMemory
-IsToldOfRecorded most logs dag intervals BackfillFault.Start told =
-    told ≡ Stopped StopFault.CannotStart
-IsToldOfRecorded most logs dag intervals (BackfillFault.Runner name) told =
-    IsToldAt most logs dag intervals name told

@@ -6,3 +6,4 @@ pub mod Programs
 pub mod Cleared
 pub mod Journaled
 pub mod Planned
+pub mod inner

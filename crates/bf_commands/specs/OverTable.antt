@@ -1,5 +1,5 @@
 -- What is reported of a backfill over a table: the recursion over dates, over what the table answers.
-use Rattle.std.specs.Prelude.{◌≡◌, ℕ, Bool, false, not, List, map}
+use Rattle.std.specs.Prelude.{◌≡◌, ℕ, Bool, not, List, map}
 use Rattle.bf_value.specs.declared.name.JobName.{JobName}
 use Rattle.bf_plan.specs.declared.plan.Dag.{Dag}
 use Rattle.bf_interval.specs.declared.interval.Interval.{Interval}
@@ -7,11 +7,7 @@ use Rattle.bf_xcom.specs.declared.values.Given.{Given}
 use Rattle.bf_try.specs.declared.answers.Raw.{Raw}
 use Rattle.bf_table.specs.declared.table.TableEntry.{TableEntry}
 use Rattle.bf_table.specs.Tables.{Answering, answer_of, dates_in}
-use Rattle.bf_command_fault.specs.declared.fault.CommandFault.{CommandFault}
-use Rattle.bf_command_fault.specs.declared.fault.CommandFault.TheVariants.{CannotWrite, Stopped}
-use Rattle.bf_command_fault.specs.declared.stop.StopFault.{StopFault}
 use Rattle.bf_commands.specs.Reported.{IsReportBy}
-use Rattle.bf_planning.specs.Wanting.{IsWanting}
 
 -- a table's answers to runs over these data intervals
 abbrev pub answering : Dag → List TableEntry → List Interval → Answering
@@ -31,15 +27,3 @@ TableReport dag table intervals text success =
 -- where a table answers and no progress is told, the calling thread makes all tries, however many workers may run
 abbrev pub is_single_threaded_in : Bool → Bool
 is_single_threaded_in progress = not progress
-
--- memory or the device is wanting, or where workers are started, the thread of one
-abbrev pub IsWantingWorkers : Bool → CommandFault → Type 0
-IsWantingWorkers alone (Stopped StopFault.CannotStart) = alone ≡ false
-IsWantingWorkers alone fault = IsWanting fault
-
--- ---- for private clauses
-
--- no device was called
-abbrev pub IsUnsent : CommandFault → Type 0
-IsUnsent (CannotWrite n) = ⊥
-IsUnsent _ = Unit {0}

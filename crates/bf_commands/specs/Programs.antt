@@ -8,18 +8,16 @@ use Rattle.bf_plan.specs.declared.plan.Dag.{Dag}
 use Rattle.bf_interval.specs.declared.interval.Interval.{Interval}
 use Rattle.bf_xcom.specs.declared.values.Given.{Given}
 use Rattle.bf_try.specs.declared.answers.Raw.{Raw}
-use Rattle.bf_core.specs.declared.fault.BackfillFault.{BackfillFault}
 use Rattle.bf_words.specs.declared.context.JobContext.{JobContext}
 use Rattle.bf_failure.specs.Tried.{IsContextOf, log_of}
 use Rattle.bf_process.specs.Words.{Launched, LaunchingOf, MayAnswer, MayGiveUp, Tried, lost_through, through}
 use Rattle.bf_command_fault.specs.declared.fault.CommandFault.{CommandFault}
-use Rattle.bf_command_fault.specs.declared.fault.CommandFault.TheVariants.{OutOfMemory, Range, CannotWrite, Stopped}
+use Rattle.bf_command_fault.specs.declared.fault.CommandFault.TheVariants.{Range, CannotWrite, Stopped}
 use Rattle.bf_command_fault.specs.declared.stop.StopFault.{StopFault}
 use Rattle.bf_planning.specs.declared.range.RunRange.{RunRange}
 use Rattle.bf_planning.specs.declared.plan.DatedPlan.{DatedPlan}
 use Rattle.bf_planning.specs.Graphs.{IsGraph, IsFaultIn}
 use Rattle.bf_planning.specs.Lists.{HasListing}
-use Rattle.bf_planning.specs.Wanting.{IsWanting}
 use Rattle.bf_commands.specs.Reported.{IsReportBy}
 use Rattle.bf_planning.specs.Clocks.{AreClocksOf, clocks_in}
 
@@ -115,28 +113,3 @@ RunFault launching may_lose graph file range (CannotWrite n) = Unit {0}
 RunFault launching may_lose graph file range (Stopped stop) =
     StopsRunning launching may_lose graph file range stop
 RunFault launching may_lose graph file range fault = IsFaultIn graph file fault
-
--- ---- for private clauses
-
--- the backfill stops; or memory or the device is wanting
-abbrev pub IsStopOfOrWanting : (JobName → Given → Type 0) → Option (List ℕ) → Dag → List Interval
-    → CommandFault → Type 0
-IsStopOfOrWanting may_give_up logs dag intervals (Stopped stop) =
-    IsStopOf may_give_up logs dag intervals stop
-IsStopOfOrWanting may_give_up logs dag intervals fault = IsWanting fault
-
--- this try is told as given up, or its log; or memory is wanting
-abbrev pub IsGivenUp : Option (List ℕ) → Dag → List Interval → JobName → CommandFault → Type 0
-IsGivenUp logs dag intervals name (Stopped (StopFault.GaveUp task index attempt)) =
-    (task ≡ (task_of dag name.task).id) × (index ≡ name.index) × (attempt ≡ name.attempt)
-IsGivenUp logs dag intervals name (Stopped (StopFault.CannotLog path)) =
-    IsLogOf logs dag intervals name path
-IsGivenUp logs dag intervals name OutOfMemory = Unit {0}
-IsGivenUp logs dag intervals name fault = ⊥
-
--- what is told of what stopped a backfill
-abbrev pub IsToldOf : Option (List ℕ) → Dag → List Interval → BackfillFault → CommandFault → Type 0
-IsToldOf logs dag intervals BackfillFault.OutOfMemory told = told ≡ OutOfMemory
-IsToldOf logs dag intervals BackfillFault.Start told = told ≡ Stopped StopFault.CannotStart
-IsToldOf logs dag intervals (BackfillFault.Runner name) told =
-    IsGivenUp logs dag intervals name told

@@ -5,7 +5,6 @@ use Rattle.std.specs.List.{list_all}
 use Rattle.bf_value.specs.declared.name.JobName.{JobName}
 use Rattle.bf_value.specs.Names.{name_cmp}
 use Rattle.bf_plan.specs.declared.plan.Dag.{Dag}
-use Rattle.bf_plan.specs.declared.plan.Limits.{Limits}
 use Rattle.bf_interval.specs.declared.interval.Interval.{Interval}
 use Rattle.bf_xcom.specs.declared.values.Given.{Given}
 use Rattle.bf_xcom.specs.declared.values.RunState.{RunState}
@@ -15,8 +14,6 @@ use Rattle.bf_try.specs.Tries.{AreAlike, Ledger}
 use Rattle.bf_kept.specs.Kept.{AreGradedAnew}
 use Rattle.bf_core.specs.Agreement.{HoldsItsTries}
 use Rattle.bf_core.specs.Answered.{AreGraded}
-use Rattle.bf_core.specs.Endings.{Ending, IsEndOf, KeepsWorkers}
-use Rattle.bf_core.specs.Events.{entry_in}
 use Rattle.bf_report.specs.declared.report.Report.{Report}
 use Rattle.bf_report.specs.Dated.{IsDated}
 use Rattle.bf_report.specs.Report.{report_text}
@@ -56,15 +53,3 @@ pub record IsReportFrom (kept : Ledger) (may_answer : JobName → Given → Raw
   pub anew : AreGradedAnew kept may_answer dag (finite.get ledger)
   pub all : AreGraded may_answer dag kept → AreGraded may_answer dag (finite.get ledger)
   pub reported : IsReportOf dag intervals (finite.get ledger) text success
-
--- ---- for private clauses
-
--- the end of a backfill in which the kept tries stand as they are kept, every other has the grade of an answer that may come, as all
--- have where the kept ones do, and no more tries ran at once than there are workers
-pub record IsEndFrom (kept : Ledger) (may_answer : JobName → Given → Raw
-    → Type 0) (dag : Dag) (limits : Limits) (runs workers : ℕ) (ending : Ending) : Type 0 where
-  pub of : IsEndOf dag limits runs ending
-  pub again : AreAlike kept (entry_in ending.state.ledger)
-  pub anew : AreGradedAnew kept may_answer dag (entry_in ending.state.ledger)
-  pub all : AreGraded may_answer dag kept → AreGraded may_answer dag (entry_in ending.state.ledger)
-  pub within : KeepsWorkers dag runs workers ending.journal

@@ -5,9 +5,12 @@ ghost use Rattle.bf_process.specs.Words.{MayAnswer, launching_of, through};
 ghost use Rattle.bf_table.specs.Tables.{answer_of};
 ghost use Rattle.bf_device.specs.Device.{HasHalted};
 ghost use Rattle.bf_command_fault.specs.Refusal.{Leaves, Sends};
-ghost use Rattle.bf_commands.specs.Cleared.{IsStopOrWantingAnew, IsStopOrWantingFrom, MayAnswerBy};
-ghost use Rattle.bf_commands.specs.OverTable.{AnswersByTable, IsUnsent, IsWantingWorkers, answering, is_single_threaded_in};
-ghost use Rattle.bf_commands.specs.Reported.{IsEndFrom, IsReportFrom};
+ghost use Rattle.bf_commands.specs.Cleared.{MayAnswerBy};
+ghost use Rattle.bf_commands.specs.inner.Cleared.{IsStopOrWantingAnew, IsStopOrWantingFrom};
+ghost use Rattle.bf_commands.specs.OverTable.{AnswersByTable, answering, is_single_threaded_in};
+ghost use Rattle.bf_commands.specs.inner.OverTable.{IsUnsent, IsWantingWorkers};
+ghost use Rattle.bf_commands.specs.Reported.{IsReportFrom};
+ghost use Rattle.bf_commands.specs.inner.Reported.{IsEndFrom};
 
 use crate::crew::Crew;
 use crate::programs::{programs_of, tell_of_logs};

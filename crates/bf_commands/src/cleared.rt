@@ -5,7 +5,8 @@ ghost use Rattle.bf_dependents.specs.Dependents.{AreDependents};
 ghost use Rattle.bf_dependents.specs.Seeds.{places_in, seed_fault};
 ghost use Rattle.bf_clear.specs.Keeping.{kept_in};
 ghost use Rattle.bf_clear.specs.Matching.{refusal};
-ghost use Rattle.bf_commands.specs.Cleared.{report_fault, AreCleared, AreKeptFor, IsUnknown, IsUnknownNamed};
+ghost use Rattle.bf_commands.specs.Cleared.{report_fault, AreCleared, AreKeptFor, IsUnknown};
+ghost use Rattle.bf_commands.specs.inner.Cleared.{IsUnknownNamed};
 
 use bf_clear::{Cleared, clear_places, clear_places_by_ids, failed_places};
 use bf_command_fault::CommandFault;

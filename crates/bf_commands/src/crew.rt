@@ -3,7 +3,7 @@ ghost use Rattle.std.specs.Prelude.{◌≡◌, IfOk, IfErr, length};
 ghost use Rattle.bf_exec.specs.Faults.{MayFail};
 ghost use Rattle.bf_kept.specs.Kept.{AreFit, MayGiveUpAnew};
 ghost use Rattle.bf_commands.specs.OverTable.{is_single_threaded_in};
-ghost use Rattle.bf_commands.specs.Reported.{IsEndFrom};
+ghost use Rattle.bf_commands.specs.inner.Reported.{IsEndFrom};
 
 use crate::progress::Noting;
 use crate::stop::StoppedBackfill;

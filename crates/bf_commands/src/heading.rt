@@ -1,7 +1,8 @@
 //! What the head of a journal tells of what is cleared.
 ghost use Rattle.std.specs.Prelude.{IfOk, OnOk, slice_get};
 ghost use Rattle.bf_interval.specs.Intervals.{IsShownInterval};
-ghost use Rattle.bf_commands.specs.Journaled.{AddsTold, IsToldOf, TellsOf};
+ghost use Rattle.bf_commands.specs.Journaled.{IsToldOf, TellsOf};
+ghost use Rattle.bf_commands.specs.inner.Journaled.{AddsTold};
 
 use bf_dependents::Place;
 use bf_interval::{Interval, Runs};

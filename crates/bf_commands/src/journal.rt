@@ -4,7 +4,8 @@ ghost use Rattle.std.specs.FinMap;
 ghost use Rattle.bf_kept.specs.Kept.{AreFit};
 ghost use Rattle.bf_journal.specs.Heads.{head_text};
 ghost use Rattle.bf_journal.specs.Left.{IsLeftPart, IsMadeWhole};
-ghost use Rattle.bf_commands.specs.Journaled.{HasTries, IsFaultOfJournal};
+ghost use Rattle.bf_commands.specs.Journaled.{HasTries};
+ghost use Rattle.bf_commands.specs.inner.Journaled.{IsFaultOfJournal};
 
 use crate::telling::tell_found;
 use bf_command_fault::{CommandFault, StopFault};

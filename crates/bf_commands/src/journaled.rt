@@ -10,10 +10,13 @@ ghost use Rattle.bf_journal.specs.Left.{KeepsJournal};
 ghost use Rattle.bf_journal.specs.Recording.{IsRecordBy, IsWritten, is_write_failed};
 ghost use Rattle.bf_command_fault.specs.Refusal.{Leaves, Sends};
 ghost use Rattle.bf_commands.specs.Cleared.{MayAnswerBy};
-ghost use Rattle.bf_commands.specs.Journaled.{JournalReportFault, IsJournalReport, IsStopRecordedOrWanting};
-ghost use Rattle.bf_commands.specs.OverTable.{AnswersByTable, IsUnsent};
+ghost use Rattle.bf_commands.specs.Journaled.{JournalReportFault, IsJournalReport};
+ghost use Rattle.bf_commands.specs.inner.Journaled.{IsStopRecordedOrWanting};
+ghost use Rattle.bf_commands.specs.OverTable.{AnswersByTable};
+ghost use Rattle.bf_commands.specs.inner.OverTable.{IsUnsent};
 ghost use Rattle.bf_planning.specs.Wanting.{IsWanting};
-ghost use Rattle.bf_commands.specs.Reported.{IsEndFrom, IsReportFrom, IsReportOf};
+ghost use Rattle.bf_commands.specs.Reported.{IsReportFrom, IsReportOf};
+ghost use Rattle.bf_commands.specs.inner.Reported.{IsEndFrom};
 
 use crate::backfill::runner_over;
 use crate::crew::Crew;

@@ -3,9 +3,9 @@ ghost use Rattle.std.specs.Prelude.{◌≡◌, IfErr, IfOk, length};
 ghost use Rattle.bf_kept.specs.Kept.{AreFit};
 ghost use Rattle.bf_journal.specs.Recording.{IsRecordBy, IsWritten, MayRecord, is_write_failed};
 ghost use Rattle.bf_process.specs.Words.{launching_of};
-ghost use Rattle.bf_commands.specs.Journaled.{IsStopRecordedOrWanting};
-ghost use Rattle.bf_commands.specs.OverTable.{IsUnsent};
-ghost use Rattle.bf_commands.specs.Reported.{IsEndFrom};
+ghost use Rattle.bf_commands.specs.inner.Journaled.{IsStopRecordedOrWanting};
+ghost use Rattle.bf_commands.specs.inner.OverTable.{IsUnsent};
+ghost use Rattle.bf_commands.specs.inner.Reported.{IsEndFrom};
 
 use crate::crew::Crew;
 use crate::stop::stop_fault_of_recording;

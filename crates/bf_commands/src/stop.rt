@@ -2,9 +2,9 @@
 ghost use Rattle.std.specs.Prelude.{◌≡◌, IfSome, false, option_map};
 ghost use Rattle.bf_core.specs.Answered.{MayFault};
 ghost use Rattle.bf_exec.specs.Faults.{MayFail};
-ghost use Rattle.bf_commands.specs.Journaled.{IsToldAt, IsToldOfRecorded};
-ghost use Rattle.bf_commands.specs.OverTable.{IsUnsent, IsWantingWorkers};
-ghost use Rattle.bf_commands.specs.Programs.{IsGivenUp, IsToldOf};
+ghost use Rattle.bf_commands.specs.inner.Journaled.{IsToldAt, IsToldOfRecorded};
+ghost use Rattle.bf_commands.specs.inner.OverTable.{IsUnsent, IsWantingWorkers};
+ghost use Rattle.bf_commands.specs.inner.Programs.{IsGivenUp, IsToldOf};
 
 use bf_command_fault::{CommandFault, StopFault};
 use bf_core::BackfillFault;

@@ -4,7 +4,7 @@ use Rattle.std.specs.List.{list_all, list_any}
 use Rattle.bf_core.specs.Terms.{Dag, Instance, Outcome, Phase, Task, TaskResult, TaskValue, Verdict, is_branch_in, task_of, verdict}
 use Rattle.bf_core.specs.Deciding.{Seen, branch_is, branch_skips, counts_over, is_blocked_in, lets_decide_in, upstream_verdict_of}
 use Rattle.bf_core.specs.Events.{results, cons_result}
-use Rattle.bf_core.specs.Words.{is_finished, instances_skip_in, known_to_be, phase_skips_in}
+use Rattle.bf_core.specs.inner.Words.{is_finished, instances_skip_in, known_to_be, phase_skips_in}
 use Rattle.bf_core.proofs.Sums.{some_results}
 
 and_false : (b : Bool) → (b && false) ≡ false

@@ -4,11 +4,12 @@ use Rattle.std.specs.List.{list_all, list_any}
 use Rattle.std.proofs.lemmas.Bool.{and_parts}
 use Rattle.bf_core.specs.Terms.{Dag, State, Run, RunPhase, RunState, Cell, Instance, Phase, TaskResult, TaskValue, is_failed}
 use Rattle.bf_core.specs.Recursion.{fails_run, any_below, run_state_of}
-use Rattle.bf_core.specs.Events.{no_run, row_of, value_in, phase_in, cell_in, entry_in, is_closed, HasEnded, results, cons_result, value_or_blocked}
+use Rattle.bf_core.specs.Events.{no_run, row_of, value_in, phase_in, cell_in, entry_in, HasEnded, results, cons_result, value_or_blocked}
+use Rattle.bf_core.specs.inner.Events.{is_closed}
 use Rattle.bf_core.specs.Agreement.{IsOutcome, AreRunStates}
-use Rattle.bf_core.specs.Checks.{AreStatesOf, row_value}
+use Rattle.bf_core.specs.inner.Checks.{AreStatesOf, row_value}
 use Rattle.bf_core.proofs.Placing.{any_default}
-use Rattle.bf_core.specs.Words.{is_failed_phase, is_failed_instance, instances_fail}
+use Rattle.bf_core.specs.inner.Words.{is_failed_phase, is_failed_instance, instances_fail}
 use Rattle.bf_core.proofs.Sums.{some_results}
 use Rattle.bf_core.proofs.Numbers.{below_or}
 

@@ -3,7 +3,7 @@ use Rattle.std.proofs.Common.{◌≡◌, ◌<◌, ◌&&◌, ℕ, zero, suc, Bool
 use Rattle.std.specs.List.{list_all}
 use Rattle.bf_core.specs.Terms.{Dag, State, Run, RunPhase}
 use Rattle.bf_core.specs.Events.{value_in, is_open, phase_of, AllSettled}
-use Rattle.bf_core.specs.Checks.{HasRows}
+use Rattle.bf_core.specs.inner.Checks.{HasRows}
 use Rattle.bf_core.proofs.Known.{not_closable}
 use Rattle.bf_core.proofs.Shape.{open_run_exists}
 

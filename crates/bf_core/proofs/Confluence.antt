@@ -1,7 +1,8 @@
 -- Two outcomes whose ledgers are alike are equal.
 use Rattle.std.proofs.Common.{◌≡◌, ℕ, suc, zero, ◌+◌, ◌<◌, ◌≤◌, Bool, true, false, List, [], ◌∷◌, length, Option, None, Some, slice_get, refl, sym, ap, ap₂, ◌∙◌, arith, ext_get_or, slice_index_or}
 use Rattle.std.specs.FinMap as map
-use Rattle.bf_core.specs.Terms.{Verdict, Cell, Phase, RunPhase, Run, name_cmp, name_cmp_total, name_cmp-IsAntisymmetric, Dag, task_of, Given, Outcome, Entry, JobName, Ledger, TaskResult, result_of, name_of, outcome_at, outcome_of, last_try, TaskValue, IsOneOf, IsSettledAncestor, Direct, Above, IsSound, State, AreAlike}
+use Rattle.bf_core.specs.Terms.{Verdict, Cell, Phase, RunPhase, Run, name_cmp, Dag, task_of, Given, Outcome, Entry, JobName, Ledger, TaskResult, result_of, name_of, outcome_at, outcome_of, last_try, TaskValue, IsOneOf, IsSettledAncestor, Direct, Above, IsSound, State, AreAlike}
+use Rattle.bf_value.specs.inner.Names.{name_cmp_total, name_cmp-IsAntisymmetric}
 use Rattle.bf_core.specs.Deciding.{Seen, settled, Decision, and_then_past, after_verdict, task_verdict_of, decision}
 use Rattle.bf_core.specs.Recursion.{out, before, decided, value_of, results_from, Asks, IsDefined}
 use Rattle.bf_core.proofs.Shape.{IsShaped, row_in}

@@ -14,7 +14,7 @@ use Rattle.bf_try.specs.Grades.{gives_items_in, is_list_of_items_in, is_short_va
 use Rattle.bf_core.specs.Terms.{Cell, Dag, Instance, Items, Outcome, Phase, SourceValues, Task, TaskResult, TaskValue, Xval, fits_in, is_branch_in, items, pushed_value_of, shape_of, source_values, task_of}
 use Rattle.bf_core.specs.Events.{cons_result, results, value_in}
 use Rattle.bf_core.specs.Few.{HasFitting, IsFew, IsFitting}
-use Rattle.bf_core.specs.Words.{pushed_by_first, pushed_by_one, pushed_in, sourced_from}
+use Rattle.bf_core.specs.inner.Words.{pushed_by_first, pushed_by_one, pushed_in, sourced_from}
 use Rattle.bf_core.proofs.Pulled.{first_pushed}
 use Rattle.bf_core.proofs.Sums.{some_results}
 use Rattle.bf_core.proofs.Numbers.{le_from}

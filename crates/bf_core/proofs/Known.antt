@@ -5,7 +5,7 @@ use Rattle.std.proofs.lemmas.Bool.{and_parts}
 use Rattle.bf_core.specs.Terms.{Dag, State, Run, RunPhase, Cell, Instance, Phase, JobName}
 use Rattle.bf_core.specs.Events.{cell_in, cell_at, row_of, phase_in, phase_of, no_run, instance_of, place_in, value_in, is_open, IsPresent, AllSettled}
 use Rattle.bf_core.specs.Cores.{IsThere, IsKnown}
-use Rattle.bf_core.specs.Checks.{HasRows, IsKnownAs}
+use Rattle.bf_core.specs.inner.Checks.{HasRows, IsKnownAs}
 use Rattle.bf_core.proofs.Placing.{read_row, some_below}
 
 -- ---- in range

@@ -7,7 +7,7 @@ use Rattle.bf_core.specs.Terms.{Clock, Demand, Entry, Event, JobName, Outcome}
 use Rattle.bf_core.specs.Events.{after, begun, cell_at, change_instance, ended, occupied, place_in, put, put_in}
 use Rattle.bf_core.specs.Clocks.{after_end, clock_after}
 use Rattle.bf_core.specs.Cores.{Backfill, IsCore, MayCome}
-use Rattle.bf_core.specs.Tries.{IsBeginning, IsEnding}
+use Rattle.bf_core.specs.inner.Tries.{IsBeginning, IsEnding}
 use Rattle.bf_core.specs.declared.machine.Ending.{Ending}
 use Rattle.bf_core.proofs.Enabling.{has_room}
 use Rattle.bf_core.proofs.Kept.{replay_shaped}

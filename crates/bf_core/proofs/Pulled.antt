@@ -5,7 +5,7 @@ use Rattle.bf_value.specs.Views.{list_of}
 use Rattle.bf_xcom.specs.Pulls.{only_pushed_value_in, pushed_by, pushed_values_in}
 use Rattle.bf_core.specs.Terms.{Instance, Phase, Task, TaskResult, TaskValue, Xval, pull_of}
 use Rattle.bf_core.specs.Events.{results, cons_result}
-use Rattle.bf_core.specs.Words.{pushed_in, pushed_by_one, pushed_by_first, pulled_from}
+use Rattle.bf_core.specs.inner.Words.{pushed_in, pushed_by_one, pushed_by_first, pulled_from}
 use Rattle.bf_core.proofs.Sums.{some_results}
 
 -- the first result is the first instance's

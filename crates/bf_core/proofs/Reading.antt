@@ -4,7 +4,8 @@ use Rattle.std.specs.FinMap as map
 use Rattle.std.specs.Ordering.{eq_by_cmp}
 use Rattle.std.specs.Cmp.{eq_by_cmp_equiv}
 use Rattle.bf_try.proofs.Maps.{same_name}
-use Rattle.bf_core.specs.Terms.{name_cmp, name_cmp_total, JobName, Entry, State, Run, RunPhase, Cell}
+use Rattle.bf_core.specs.Terms.{name_cmp, JobName, Entry, State, Run, RunPhase, Cell}
+use Rattle.bf_value.specs.inner.Names.{name_cmp_total}
 use Rattle.bf_core.specs.Events.{no_run, cell_at, put, with_phase, cell_in, put_in, phase_put_in, entry_in}
 
 -- ---- entries

@@ -7,7 +7,7 @@ use Rattle.bf_core.specs.Few.{IsFew}
 use Rattle.bf_core.specs.Terms.{Counts, add, Cell, Instance, Phase, Outcome, TaskValue, TaskResult, Verdict, is_failed}
 use Rattle.bf_core.specs.Deciding.{past_ruling, all_passed}
 use Rattle.bf_core.specs.Events.{counts_of_cell, counts_of_instance, counts_of_instances, results, cons_result}
-use Rattle.bf_core.specs.Words.{is_finished, passed, ran_ruling}
+use Rattle.bf_core.specs.inner.Words.{is_finished, passed, ran_ruling}
 
 pub total_add : (a b : Counts) → total_of (add a b) ≡ total_of a + total_of b
 total_add a b = omega arith

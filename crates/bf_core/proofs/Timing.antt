@@ -6,7 +6,7 @@ use Rattle.std.specs.Int.{int_min}
 use Rattle.std.specs.FinMap as map
 use Rattle.std.specs.Ordering.{eq_by_cmp}
 use Rattle.std.specs.Cmp.{eq_by_cmp_equiv}
-use Rattle.bf_value.specs.Names.{name_cmp_total, name_cmp-IsAntisymmetric}
+use Rattle.bf_value.specs.inner.Names.{name_cmp_total, name_cmp-IsAntisymmetric}
 use Rattle.bf_try.proofs.Maps.{same_name}
 use Rattle.bf_core.specs.Terms.{Clock, Dag, Entry, Event, JobName, Ledger, Limits, State, name_cmp, demand_of, task_of}
 use Rattle.bf_core.specs.Events.{after, entry_in, is_made_again}

@@ -1,4 +1,4 @@
--- Backfills of a plan whose tries were answered as they may be, on the way and at the end.
+-- Backfills of a plan whose tries were answered as they may be, on the way.
 use Rattle.std.specs.Prelude.{◌≡◌, ℕ}
 use Rattle.bf_plan.specs.Sound.{AreLimits}
 use Rattle.bf_try.specs.declared.answers.Raw.{Raw}
@@ -6,7 +6,7 @@ use Rattle.bf_core.specs.Terms.{Dag, Given, JobName, Limits}
 use Rattle.bf_core.specs.Events.{entry_in}
 use Rattle.bf_core.specs.Cores.{Backfill, IsReplay}
 use Rattle.bf_core.specs.Answered.{AreGraded}
-use Rattle.bf_core.specs.Endings.{Ending, IsEndOf, KeepsWorkers}
+use Rattle.bf_core.specs.Endings.{KeepsWorkers}
 
 -- a backfill of the plan and of so many runs by so many workers, whose tries so far have grades of answers that may be given
 pub record IsDriven (may_answer : JobName → Given → Raw
@@ -19,10 +19,3 @@ pub record IsDriven (may_answer : JobName → Given → Raw
   pub limits_fit : AreLimits backfill.dag backfill.limits
   pub graded : AreGraded may_answer backfill.dag (entry_in backfill.state.ledger)
   pub kept : KeepsWorkers backfill.dag backfill.runs workers backfill.journal
-
--- what a backfill that is driven to its end comes to
-pub record IsOver (may_answer : JobName → Given → Raw
-    → Type 0) (dag : Dag) (limits : Limits) (runs workers : ℕ) (ending : Ending) : Type 0 where
-  pub of : IsEndOf dag limits runs ending
-  pub graded : AreGraded may_answer dag (entry_in ending.state.ledger)
-  pub kept : KeepsWorkers dag runs workers ending.journal

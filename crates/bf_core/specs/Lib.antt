@@ -5,11 +5,9 @@ pub mod Events
 pub mod Agreement
 pub mod Few
 pub mod Clocks
-pub mod Words
 pub mod Cores
-pub mod Checks
-pub mod Tries
 pub mod Running
 pub mod Answered
 pub mod Endings
 pub mod Driven
+pub mod inner

@@ -4,7 +4,7 @@ ghost use Rattle.bf_core.specs.Terms.{task_of};
 ghost use Rattle.bf_core.specs.Events.{cell_at, seen_in, before_in, is_run, fresh, cell_of};
 ghost use Rattle.bf_core.specs.Deciding.{after_verdict, task_verdict_of};
 ghost use Rattle.bf_core.specs.Few.{AreFew};
-ghost use Rattle.bf_core.specs.Checks.{HasRows, RefusedFor, IsUndecidedNow};
+ghost use Rattle.bf_core.specs.inner.Checks.{HasRows, RefusedFor, IsUndecidedNow};
 ghost use Rattle.bf_core.specs.Cores.{IsThere};
 
 use crate::event::Illegal;

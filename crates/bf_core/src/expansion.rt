@@ -3,8 +3,8 @@ ghost use Rattle.std.specs.Prelude.{◌≡◌, [], ◌∷◌, map, IfOk, None, S
 ghost use Rattle.bf_core.specs.Terms.{items as given_by, source_values as values_for, task_of};
 ghost use Rattle.bf_core.specs.Deciding.{instances_of, mapped, pull_seen};
 ghost use Rattle.bf_core.specs.Events.{cell_at, seen_in, value_in};
-ghost use Rattle.bf_core.specs.Checks.{HasRows};
-ghost use Rattle.bf_core.specs.Words.{pushed_by_one, sourced_from};
+ghost use Rattle.bf_core.specs.inner.Checks.{HasRows};
+ghost use Rattle.bf_core.specs.inner.Words.{pushed_by_one, sourced_from};
 
 use crate::decision::Decision;
 use crate::pulls::{pull_all, pushed_by_first_of};

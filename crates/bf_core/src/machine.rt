@@ -2,9 +2,9 @@
 ghost use Rattle.std.specs.Prelude.{◌≡◌, ◌<◌, OnOk, OnErr, IfOk, IfErr, IfSome, IfNone, length};
 ghost use Rattle.bf_core.specs.Events.{next_run, decision_in, IsPresent, phase_of, AllSettled};
 ghost use Rattle.bf_core.specs.Cores.{deciding, opening, HasCome, IsRefusal, MayCome};
-ghost use Rattle.bf_core.specs.Tries.{IsBeginning, IsEnding, IsRetry};
+ghost use Rattle.bf_core.specs.inner.Tries.{IsBeginning, IsEnding, IsRetry};
 ghost use Rattle.bf_core.specs.Terms.{Phase};
-ghost use Rattle.bf_core.specs.Checks.{HasRows, RefusedFor};
+ghost use Rattle.bf_core.specs.inner.Checks.{HasRows, RefusedFor};
 
 use crate::clock::{Clock, Moments, Retry, note_end};
 use crate::decision::{

@@ -4,7 +4,7 @@ ghost use Rattle.bf_core.specs.Terms.{map_index, name_of as name_in, task_of};
 ghost use Rattle.bf_core.specs.Events.{place_in, cell_at, instance_of, IsPresent};
 ghost use Rattle.bf_core.specs.Clocks.{next_try_of};
 ghost use Rattle.bf_core.specs.Cores.{IsKnown};
-ghost use Rattle.bf_core.specs.Checks.{HasRows, RefusedFor, IsOfName, IsKnownAs, asked_phase};
+ghost use Rattle.bf_core.specs.inner.Checks.{HasRows, RefusedFor, IsOfName, IsKnownAs, asked_phase};
 ghost use Rattle.bf_core.specs.declared.state.Instance.{Instance};
 
 use crate::event::Illegal;

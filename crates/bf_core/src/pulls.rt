@@ -4,8 +4,8 @@ ghost use Rattle.std.specs.List.{filter_map};
 ghost use Rattle.bf_core.specs.Terms.{pull_of};
 ghost use Rattle.bf_core.specs.Deciding.{pull_seen};
 ghost use Rattle.bf_core.specs.Events.{cell_at, seen_in, value_in};
-ghost use Rattle.bf_core.specs.Checks.{HasRows};
-ghost use Rattle.bf_core.specs.Words.{pushed_by_one, pushed_by_first, pulled_from};
+ghost use Rattle.bf_core.specs.inner.Checks.{HasRows};
+ghost use Rattle.bf_core.specs.inner.Words.{pushed_by_one, pushed_by_first, pulled_from};
 
 use crate::state::{Cell, Instance, Phase, State, are_finished};
 use bf_plan::{Dag, Task};

@@ -2,11 +2,12 @@
 ghost use Rattle.std.specs.Prelude.{◌≡◌, ◌<◌, ◌↔◌, ◌≤◌, ◌&&◌, length, IsSome, IfSome, IfNone, is_some, IfOk};
 ghost use Rattle.std.specs.List.{list_all};
 ghost use Rattle.bf_try.specs.Grades.{most_items};
-ghost use Rattle.bf_core.specs.Events.{put, with_phase, row_of, cell_at, phase_of, is_open, is_closed, counts_of_instance, counts_of_instances, counts_of_cell, value_in, instance_of, change_instance, is_made_again, undecided_cells_of, empty_runs_of};
+ghost use Rattle.bf_core.specs.Events.{put, with_phase, row_of, cell_at, phase_of, is_open, counts_of_instance, counts_of_instances, counts_of_cell, value_in, instance_of, change_instance, is_made_again, undecided_cells_of, empty_runs_of};
+ghost use Rattle.bf_core.specs.inner.Events.{is_closed};
 ghost use Rattle.bf_core.specs.Deciding.{one_of};
 ghost use Rattle.bf_core.specs.Few.{IsFew};
-ghost use Rattle.bf_core.specs.Words.{is_finished};
-ghost use Rattle.bf_core.specs.Tries.{changed, IsCountable};
+ghost use Rattle.bf_core.specs.inner.Words.{is_finished};
+ghost use Rattle.bf_core.specs.inner.Tries.{changed, IsCountable};
 
 use bf_rule::Counts;
 use bf_try::{Ledger, Outcome};

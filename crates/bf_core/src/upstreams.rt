@@ -5,7 +5,7 @@ ghost use Rattle.bf_rule.specs.Verdicts.{total_of};
 ghost use Rattle.bf_core.specs.Deciding.{branch_is, branch_skips, is_blocked_in, counts_over, lets_decide_in, upstream_verdict_of};
 ghost use Rattle.bf_core.specs.Events.{cell_at, seen_in, counts_of_cell, value_in};
 ghost use Rattle.bf_core.specs.Few.{AreFew};
-ghost use Rattle.bf_core.specs.Words.{known_to_be, phase_skips_in, instances_skip_in};
+ghost use Rattle.bf_core.specs.inner.Words.{known_to_be, phase_skips_in, instances_skip_in};
 
 use crate::state::{Cell, Instance, Phase, State, are_finished};
 use bf_plan::{Dag, Plan, Task};

@@ -5,7 +5,8 @@ use Rattle.jiff.specs.Types.{Date, DateTime}
 use Rattle.jiff.specs.Words.{epoch_day, time_nanos}
 use Rattle.jiff.proofs.Family.{same_date, same_datetime, civil_nanos-parts, time_nanos_bound}
 use Rattle.bf_cron.specs.declared.spec.CronSpec.{CronSpec}
-use Rattle.bf_cron.specs.Cron.{spec_matches, spec_has_date, spec_has_time, has_number}
+use Rattle.bf_cron.specs.Cron.{spec_matches, spec_has_date, has_number}
+use Rattle.bf_cron.specs.inner.Cron.{spec_has_time}
 use Rattle.bf_cron.specs.Minutes.{IsMinute, IsDay}
 
 pub minute_shown : (date : Date) (at : DateTime) (day minute : ℕ) → IsDay day date → at.date ≡ date → time_nanos at.time ≡ minute * 60_000_000_000 → IsMinute (day * 1_440 + minute) at

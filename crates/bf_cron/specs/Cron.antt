@@ -1,6 +1,6 @@
 -- The cron form: five fields of items, and what a civil minute must be to match.
-use Rattle.std.specs.Prelude.{◌≡◌, ℕ, ◌+◌, ◌-◌, ◌*◌, ◌/◌, ◌%◌, Bool, ◌&&◌, ◌||◌, not, ◌==◌, nat_le, nat_lt, if◌then◌else◌, List, [], ◌∷◌, length, Option, Some, None, map, filter, position, option_map, codes}
-use Rattle.std.specs.Prelude.{◌<◌, ◌≤◌, Result, Ok, Err}
+use Rattle.std.specs.Prelude.{◌≡◌, ℕ, ◌+◌, ◌-◌, ◌*◌, ◌%◌, Bool, ◌&&◌, ◌||◌, not, ◌==◌, nat_le, nat_lt, if◌then◌else◌, List, [], ◌∷◌, length, Option, Some, None, map, filter, position, option_map, codes}
+use Rattle.std.specs.Prelude.{◌<◌, Result, Ok, Err}
 use Rattle.std.specs.Int.{bit_at}
 use Rattle.std.specs.Str.{bytes_eq}
 use Rattle.std.specs.List.{slice_split, position_or_len, before_first, after_first, list_any}
@@ -205,23 +205,6 @@ preset text =
 abbrev pub schedule_of : List ℕ → Option Schedule
 schedule_of text = schedule_of_fields (fields_of (preset text))
 
--- both are there and the one stands for the other, or neither is there
-abbrev pub Stands : {A B : Type 0} → (A → B → Type 0) → Option A → Option B → Type 0
-Stands For None None = Unit {0}
-Stands For None (Some b) = ⊥
-Stands For (Some a) None = ⊥
-Stands For (Some a) (Some b) = For a b
-
--- the word is that of the field's items, or the text is no field
-abbrev pub IsField : Option (List Item) → Option ℕ → Type 0
-IsField items word = Stands IsWordOf items word
-
--- an item has numbers, and steps on
-pub record IsItem (i : Item) : Type 0 where
-  pub ordered : i.low ≤ i.high
-  pub small : i.high < 60
-  pub steps : 0 < i.step
-
 -- a weekday counted from Sunday, which is 0 and 7
 abbrev pub on_weekday : Schedule → ℕ → Bool
 on_weekday s weekday = in_field s.weekdays weekday || ((weekday == 0) && in_field s.weekdays 7)
@@ -259,10 +242,6 @@ IsRead None (Ok spec) = ⊥
 IsRead s (Err Bad) = s ≡ None
 IsRead s (Err OutOfMemory) = Unit {0}
 
--- the same, of five fields
-abbrev pub IsSpec : Option Schedule → Option CronSpec → Type 0
-IsSpec schedule spec = Stands (λ s c. Keeps c s) schedule spec
-
 -- ---- the same rule over the words
 
 -- the word has the number
@@ -284,10 +263,6 @@ spec_on_day c day weekday =
 -- the words have the date
 abbrev pub spec_has_date : CronSpec → Date → Bool
 spec_has_date c d = has_number c.months d.month && spec_on_day c d.day ((weekday_of d + 1) % 7)
-
--- the words have the hour and the minute of the m-th minute after midnight
-abbrev pub spec_has_time : CronSpec → ℕ → Bool
-spec_has_time c m = has_number c.minutes (m % 60) && has_number c.hours (m / 60)
 
 -- the words have the minute
 abbrev pub spec_matches : CronSpec → DateTime → Bool

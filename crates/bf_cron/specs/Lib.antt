@@ -2,3 +2,4 @@ pub mod Cron
 pub mod Grammar
 pub mod Minutes
 pub mod LeapYears
+pub mod inner

@@ -17,10 +17,6 @@ IsMinute m at = civil_nanos at +ℤ pos 172_800_000_000_000 ≡ pos (m * 60_000_
 abbrev pub IsDay : ℕ → Date → Type 0
 IsDay day date = epoch_day date +ℤ pos 2 ≡ pos day
 
--- a civil minute of those dates
-abbrev pub IsCivilMinute : DateTime → Type 0
-IsCivilMinute at = (m : ℕ) × (m < minutes) × IsMinute m at
-
 -- no such minute matches
 abbrev pub NeverFires : CronSpec → Type 0
 NeverFires s = (m : ℕ) (at : DateTime) → m < minutes → IsMinute m at → spec_matches s at ≡ true → ⊥

@@ -1,7 +1,7 @@
 //! The civil minutes that schedules are looked for in.
 ghost use Rattle.std.specs.Prelude.{◌≡◌, ◌↔◌, ◌<◌, ◌+◌, ◌*◌, ℕ, IsTrue, true, IfSome, IfNone};
 ghost use Rattle.jiff.specs.Words.{time_nanos};
-ghost use Rattle.bf_cron.specs.Cron.{spec_has_time};
+ghost use Rattle.bf_cron.specs.inner.Cron.{spec_has_time};
 ghost use Rattle.bf_cron.specs.Minutes.{IsMinute, IsDay, NeverFires};
 
 use crate::matching::Matches;

@@ -2,7 +2,8 @@
 ghost use Rattle.std.specs.Prelude.{◌≡◌, ◌==◌, ◌<◌, ℕ, if◌then◌else◌, option_map, position, map, IfSome, IfOk, [], ◌∷◌};
 ghost use Rattle.std.specs.List.{before_first};
 ghost use Rattle.std.specs.Int.{bit_at};
-ghost use Rattle.bf_cron.specs.Cron.{after, item_of, item_has, field_of, fields_of, IsField, preset, IsItem, IsSpec, schedule_of_fields};
+ghost use Rattle.bf_cron.specs.Cron.{after, item_of, item_has, field_of, fields_of, preset, schedule_of_fields};
+ghost use Rattle.bf_cron.specs.inner.Cron.{IsField, IsItem, IsSpec};
 
 use crate::field::Field;
 use crate::item::Item;

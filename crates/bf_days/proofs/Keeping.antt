@@ -15,7 +15,8 @@ use Rattle.bf_interval.specs.declared.fault.IntervalFault.{IntervalFault}
 use Rattle.bf_interval.specs.declared.fault.IntervalFault.TheVariants.{OutsideYears, RangeReversed, TooManyRuns, OutOfMemory}
 use Rattle.bf_days.specs.declared.days.Days.{Days}
 use Rattle.bf_days.specs.Days.{is_on_day}
-use Rattle.bf_days.specs.Listing.{StartsOn, AreIntervalsBetween, HasIntervalsOn, are_on, IsKeptFault, IsAddFault}
+use Rattle.bf_days.specs.Listing.{StartsOn, AreIntervalsBetween, HasIntervalsOn}
+use Rattle.bf_days.specs.inner.Listing.{are_on, IsKeptFault, IsAddFault}
 
 -- ---- lists
 

@@ -12,7 +12,8 @@ use Rattle.bf_interval.specs.declared.fault.IntervalFault.TheVariants.{OutsideYe
 use Rattle.bf_moment.specs.Moment.{day_of}
 use Rattle.bf_days.specs.declared.days.Days.{Days}
 use Rattle.bf_days.specs.Days.{day_shown_of, is_on_day}
-use Rattle.bf_days.specs.Listing.{AreDays, AreIntervalsBetween, AreIntervalsOn, IsAddFault, IsAnswerOn}
+use Rattle.bf_days.specs.Listing.{AreDays, AreIntervalsBetween, AreIntervalsOn, IsAnswerOn}
+use Rattle.bf_days.specs.inner.Listing.{IsAddFault}
 
 -- no clock is further from UTC
 offset_within : (zone : TimeZone) (n : ℤ) → IsWithin 93_599 (offset_at zone n)

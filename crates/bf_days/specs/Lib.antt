@@ -1,2 +1,3 @@
 pub mod Days
 pub mod Listing
+pub mod inner

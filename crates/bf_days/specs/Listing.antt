@@ -56,25 +56,9 @@ pub record AreIntervalsBetween (spec : CronSpec) (zone : TimeZone) (days : Days)
   pub all : (interval : ℤ × ℤ) → StartsOn spec zone days interval → pos low ≤ℤ interval.0
       → interval.0 <ℤ pos high → Contains (map ends found) interval
 
--- the interval starts on one of the days
-abbrev pub are_on : TimeZone → Days → Interval → Bool
-are_on zone days i = is_on_day zone days i.start.nanosecond
-
 -- of the first intervals so many pass the test that they are too many behind those before
 pub record Overflows (test : Interval → Bool) (before listed : List Interval) : Type 0 where
   pub some : Interval
   pub n : ℕ
   pub within : n ≤ length listed
   pub many : length (before ++ filter test (take n listed)) ≡ 4_097
-
--- why intervals that pass the test aren't added to those before
-abbrev pub IsKeptFault : (Interval → Bool) → List Interval → List Interval → IntervalFault → Type 0
-IsKeptFault test before listed TooManyRuns = Overflows test before listed
-IsKeptFault test before listed OutOfMemory = Unit {0}
-IsKeptFault test before listed other = ⊥
-
--- why the data intervals on the days aren't listed
-abbrev pub IsAddFault : CronSpec → TimeZone → Days → IntervalFault → Type 0
-IsAddFault spec zone days TooManyRuns = HasIntervalsOn spec zone days 4_097
-IsAddFault spec zone days OutOfMemory = Unit {0}
-IsAddFault spec zone days other = ⊥

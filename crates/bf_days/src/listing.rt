@@ -4,7 +4,8 @@ ghost use Rattle.std.specs.Result.{result_map_both};
 ghost use Rattle.jiff.specs.Words.{plain_zone};
 ghost use Rattle.bf_interval.specs.Runs.{AreOfRuns, IsSaid};
 ghost use Rattle.bf_days.specs.Days.{IsDayInYears};
-ghost use Rattle.bf_days.specs.Listing.{are_on, AreIntervalsBetween, IsAnswerOn, IsKeptFault, IsAddFault};
+ghost use Rattle.bf_days.specs.Listing.{AreIntervalsBetween, IsAnswerOn};
+ghost use Rattle.bf_days.specs.inner.Listing.{are_on, IsKeptFault, IsAddFault};
 
 use crate::days::Days;
 use crate::shown::is_clock_on_days;

@@ -11,7 +11,7 @@ use Rattle.bf_dependents.specs.declared.place.Place.{Place}
 use Rattle.bf_dependents.specs.Dependents.{has_instance_in, has_seed_in, AreDependents, Following, IsDependent}
 use Rattle.bf_dependents.specs.Listing.{is_whole_in, places_of_task, places_in, places_of_run, up_to, IsListed}
 use Rattle.bf_dependents.specs.Marks.{follows_in, is_of, marks_before_in}
-use Rattle.bf_dependents.specs.Places.{place_cmp_total, place_cmp-IsAntisymmetric}
+use Rattle.bf_dependents.specs.inner.Places.{place_cmp_total, place_cmp-IsAntisymmetric}
 use Rattle.bf_dependents.proofs.RightMarks.{of_itself, of_parts}
 
 -- ---- listed so far

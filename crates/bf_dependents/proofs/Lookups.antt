@@ -12,9 +12,11 @@ use Rattle.bf_plan.specs.Plans.{task_of}
 use Rattle.bf_plan.specs.Sound.{IsSound}
 use Rattle.bf_dependents.specs.declared.place.Place.{Place}
 use Rattle.bf_dependents.specs.Dependents.{has_seed_in, is_led_to_in, AreDependents, Following, IsDependent}
-use Rattle.bf_dependents.specs.Marks.{is_of, marks_before_in, AreTouched, IsTouched}
-use Rattle.bf_dependents.specs.Places.{place_cmp, place_cmp_total, place_cmp-IsAntisymmetric}
-use Rattle.bf_dependents.specs.Seeded.{HoldSeeds}
+use Rattle.bf_dependents.specs.Marks.{is_of, marks_before_in}
+use Rattle.bf_dependents.specs.inner.Marks.{AreTouched, IsTouched}
+use Rattle.bf_dependents.specs.Places.{place_cmp}
+use Rattle.bf_dependents.specs.inner.Places.{place_cmp_total, place_cmp-IsAntisymmetric}
+use Rattle.bf_dependents.specs.inner.Seeded.{HoldSeeds}
 use Rattle.bf_dependents.proofs.RightMarks.{marked_one, of_itself, of_parts, one_marked}
 
 -- ---- seeds that are held

@@ -16,7 +16,8 @@ use Rattle.bf_plan.specs.Plans.{shape_of, task_of}
 use Rattle.bf_plan.specs.Sound.{IsOneOf}
 use Rattle.bf_plan.proofs.PlanLemmas.{is_upstream}
 use Rattle.bf_dependents.specs.declared.place.Place.{Place}
-use Rattle.bf_dependents.specs.Marks.{is_of, with_mark, follows_in, marks_before_in, AreMarks, AreMarksFor, ArePast, AreSeeded, AreTouched, IsSeedRow, IsTouched, WasTouched}
+use Rattle.bf_dependents.specs.Marks.{is_of, follows_in, marks_before_in}
+use Rattle.bf_dependents.specs.inner.Marks.{with_mark, AreMarks, AreMarksFor, ArePast, AreSeeded, AreTouched, IsSeedRow, IsTouched, WasTouched}
 
 -- so far the marks are right of the tasks before place i of the order
 pub record AreMarksTo (dag : Dag) (seeds : List Place) (k : ℕ) (order : List ℕ) (i : ℕ) (marks : List Bool) : Type 0 where

@@ -1,7 +1,7 @@
 pub mod Places
 pub mod Marks
 pub mod Dependents
-pub mod Seeded
 pub mod Faults
 pub mod Seeds
 pub mod Listing
+pub mod inner

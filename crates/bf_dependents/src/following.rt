@@ -4,7 +4,8 @@ ghost use Rattle.std.specs.List.{list_any};
 ghost use Rattle.bf_graph.specs.Order.{IsByRank, StandBehind};
 ghost use Rattle.bf_graph.specs.Reach.{is_marked_in};
 ghost use Rattle.bf_plan.specs.Plans.{shape_of};
-ghost use Rattle.bf_dependents.specs.Marks.{follows_in, AreMarksFor, AreTouched};
+ghost use Rattle.bf_dependents.specs.Marks.{follows_in};
+ghost use Rattle.bf_dependents.specs.inner.Marks.{AreMarksFor, AreTouched};
 
 use crate::marks::{is_marked, marks_before, seed_rows};
 use crate::place::Place;

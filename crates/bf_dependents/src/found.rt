@@ -3,7 +3,7 @@ ghost use Rattle.std.specs.Prelude.{◌≡◌, ◌<◌, length, None, IfOk};
 ghost use Rattle.bf_graph.specs.Reach.{is_marked_in, row_at};
 ghost use Rattle.bf_dependents.specs.Dependents.{has_instance_in, has_seed_in, is_led_to_in, AreDependents};
 ghost use Rattle.bf_dependents.specs.Listing.{is_whole_in};
-ghost use Rattle.bf_dependents.specs.Seeded.{HoldSeeds};
+ghost use Rattle.bf_dependents.specs.inner.Seeded.{HoldSeeds};
 
 use crate::following::{follows, touched_marks_of};
 use crate::marks::{is_marked, marks_at, marks_before};

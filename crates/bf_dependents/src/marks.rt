@@ -1,7 +1,8 @@
 //! Marks of tasks, a row for each run.
 ghost use Rattle.std.specs.Prelude.{◌≡◌, IfOk};
 ghost use Rattle.bf_graph.specs.Reach.{is_marked_in, row_at};
-ghost use Rattle.bf_dependents.specs.Marks.{marks_before_in, with_mark, AreSeeded, AreUnmarked};
+ghost use Rattle.bf_dependents.specs.Marks.{marks_before_in};
+ghost use Rattle.bf_dependents.specs.inner.Marks.{with_mark, AreSeeded, AreUnmarked};
 
 use crate::place::Place;
 use bf_value::{OutOfMemory, Sequence};

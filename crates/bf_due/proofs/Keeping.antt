@@ -20,7 +20,8 @@ use Rattle.bf_due.specs.Steps.{ComesBefore, IsEarlier, IsNextStep, IsStep}
 use Rattle.bf_due.specs.Agendas.{Comes, TurnComes, event_of}
 use Rattle.bf_due.specs.declared.cursors.Cursors.{Cursors}
 use Rattle.bf_due.specs.Cursors.{AreNoted}
-use Rattle.bf_due.specs.Dues.{AsksAll, Concerns, HasAdded, IsPruned, IsOfRunBelow, IsOpening, IsRanked, IsUpToDate, Kept, SpeaksOfTask}
+use Rattle.bf_due.specs.Dues.{HasAdded, IsRanked, IsUpToDate, Kept}
+use Rattle.bf_due.specs.inner.Dues.{AsksAll, Concerns, IsPruned, IsOfRunBelow, IsOpening, SpeaksOfTask}
 use Rattle.bf_due.proofs.Adding.{one_rank}
 use Rattle.bf_due.proofs.AgendaFacts.{top_in, no_items}
 use Rattle.bf_due.proofs.Newly.{newly_due}

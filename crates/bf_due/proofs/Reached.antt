@@ -15,13 +15,14 @@ use Rattle.bf_core.specs.Cores.{Backfill, MayCome, moved}
 use Rattle.bf_core.proofs.Instances.{IsUnfinished, instance_kept, open_cell}
 use Rattle.bf_core.proofs.Reading.{put_cases, set_read, with_phase_cell}
 use Rattle.bf_core.proofs.Decided.{decided_held, settled_kept}
-use Rattle.bf_core.specs.Words.{is_finished}
+use Rattle.bf_core.specs.inner.Words.{is_finished}
 use Rattle.bf_core.proofs.Numbers.{below_or, le_from, lt_from}
 use Rattle.bf_core.proofs.Sums.{finished_settled}
 use Rattle.bf_plan.proofs.ListLemmas.{some_same}
 use Rattle.bf_due.proofs.Locality.{awaits_upstream}
 use Rattle.bf_due.specs.declared.cursors.Cursors.{Cursors}
-use Rattle.bf_due.specs.Cursors.{AreFinished, ArePassed, AreNoted, Awaits, HasFinished, IsFinished, IsNoted, has_early_rule_in, lets}
+use Rattle.bf_due.specs.Cursors.{AreFinished, ArePassed, AreNoted, HasFinished, IsFinished, IsNoted, has_early_rule_in, lets}
+use Rattle.bf_due.specs.inner.Cursors.{Awaits}
 use Rattle.bf_due.specs.Stirring.{all_settled, is_settled}
 
 undecided_open : (c : Cell) → c ≡ Cell.Undecided → value_in c ≡ None

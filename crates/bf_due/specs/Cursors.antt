@@ -24,12 +24,6 @@ ArePassed early dag state run task count =
     (place : ℕ) → place < count → place < length (task_of dag task).upstreams
     → lets early dag state run (slice_index (task_of dag task).upstreams place) ≡ true
 
--- and not with the upstream at the place
-abbrev pub Awaits : Bool → Dag → State → ℕ → ℕ → ℕ → Type 0
-Awaits early dag state run task place =
-    (place < length (task_of dag task).upstreams)
-    × (lets early dag state run (slice_index (task_of dag task).upstreams place) ≡ false)
-
 -- the task need not wait for all of its upstreams
 abbrev pub has_early_rule_in : Dag → ℕ → Bool
 has_early_rule_in dag task = not (is_waiting (task_of dag task).rule)

@@ -3,3 +3,4 @@ pub mod Agendas
 pub mod Cursors
 pub mod Stirring
 pub mod Dues
+pub mod inner

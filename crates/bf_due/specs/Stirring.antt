@@ -1,19 +1,18 @@
--- What has come of a task by an event, and to which tasks below it that matters: for private clauses alone.
-use Rattle.std.specs.Prelude.{◌==◌, ℕ, Bool, not, ◌&&◌, ◌||◌, Option, None, Some, is_some}
+-- What has come of a task by an event, and to which tasks below it that matters.
+use Rattle.std.specs.Prelude.{ℕ, Bool, not, ◌&&◌, Option, None, Some, is_some}
 use Rattle.std.specs.List.{list_all}
 use Rattle.bf_value.specs.declared.name.JobName.{JobName}
 use Rattle.bf_rule.specs.declared.rule.Rule.{Rule}
 use Rattle.bf_rule.specs.declared.rule.Counts.{Counts}
-use Rattle.bf_rule.specs.Verdicts.{is_rule_met_in, is_waiting, none_counted}
+use Rattle.bf_rule.specs.Verdicts.{is_rule_met_in, none_counted}
 use Rattle.bf_plan.specs.declared.plan.Dag.{Dag}
-use Rattle.bf_plan.specs.Plans.{is_branch_in}
 use Rattle.bf_core.specs.Terms.{task_of}
 use Rattle.bf_core.specs.Deciding.{one_blocked, one_of, one_skipped, one_upstream_failed}
 use Rattle.bf_core.specs.declared.state.Cell.{Cell}
 use Rattle.bf_core.specs.declared.state.Instance.{Instance}
 use Rattle.bf_core.specs.declared.state.Phase.{Phase}
 use Rattle.bf_core.specs.declared.state.State.{State}
-use Rattle.bf_core.specs.Events.{before_in, cell_at, instance_of, place_in, value_in}
+use Rattle.bf_core.specs.Events.{cell_at, instance_of, place_in, value_in}
 use Rattle.bf_due.specs.declared.news.News.{News}
 
 -- ---- news
@@ -64,21 +63,3 @@ is_settled state run task = is_some (value_in (cell_at state run task))
 -- each upstream of the task is settled in the run
 abbrev pub all_settled : Dag → State → ℕ → ℕ → Bool
 all_settled dag state run task = list_all (is_settled state run) (task_of dag task).upstreams
-
--- the task, below this upstream, looks at more of it than at counts: it waits for it, or is expanded, or follows a branch
-abbrev pub looks_beyond_in : Dag → ℕ → ℕ → Bool
-looks_beyond_in dag upstream task =
-    is_waiting (task_of dag task).rule
-    || (is_some (task_of dag task).expand || is_branch_in (task_of dag upstream))
-
--- the task doesn't wait for its previous run: it does not depend on it, or there is none, or it is settled there
-abbrev pub is_past_known_in : Dag → State → ℕ → ℕ → Bool
-is_past_known_in dag state run task =
-    not (task_of dag task).depends_on_past || ((run == 0) || is_some (before_in state run task))
-
--- the news may let the task be decided, which is below theirs: nothing else came of the run
-abbrev pub may_let_be_decided_in : Dag → State → News → ℕ → Bool
-may_let_be_decided_in dag state news task =
-    looks_beyond_in dag news.task task
-    || ((rule_looks_for_in (task_of dag task).rule news.counts && is_past_known_in dag state news.run task)
-    || all_settled dag state news.run task)

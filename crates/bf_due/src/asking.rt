@@ -7,9 +7,10 @@ ghost use Rattle.bf_core.specs.Events.{IsDecidable};
 ghost use Rattle.bf_core.specs.Cores.{IsThere, MayCome, deciding};
 ghost use Rattle.bf_due.specs.declared.agenda.Step.{Step};
 ghost use Rattle.bf_due.specs.Agendas.{event_of};
-ghost use Rattle.bf_due.specs.Dues.{Asks, AsksAll, Concerns, HasAdded, HasRoom, IsAround, IsBelow, IsPruned, IsCloseOf, IsDueStep, IsOfFirst, IsOfRun, IsOfTask, IsOpening, IsStirred, IsUnder, SpeaksOfTask, newest};
+ghost use Rattle.bf_due.specs.Dues.{HasAdded, HasRoom, IsDueStep};
+ghost use Rattle.bf_due.specs.inner.Dues.{Asks, AsksAll, Concerns, IsAround, IsBelow, IsPruned, IsCloseOf, IsOfFirst, IsOfRun, IsOfTask, IsOpening, IsStirred, IsUnder, SpeaksOfTask, newest};
 ghost use Rattle.bf_due.specs.Cursors.{IsNoted};
-ghost use Rattle.bf_due.specs.Stirring.{is_past_known_in, looks_beyond_in, may_let_be_decided_in};
+ghost use Rattle.bf_due.specs.inner.Stirring.{is_past_known_in, looks_beyond_in, may_let_be_decided_in};
 
 use crate::agenda::{Agenda, Step, Turn};
 use crate::cursors::Cursors;

@@ -5,7 +5,8 @@ ghost use Rattle.bf_core.specs.Events.{IsDecidable, cell_at, value_in};
 ghost use Rattle.bf_core.specs.Cores.{Backfill, MayCome};
 ghost use Rattle.bf_core.specs.declared.event.Event.{Event};
 ghost use Rattle.bf_core.specs.declared.state.Cell.{Cell};
-ghost use Rattle.bf_due.specs.Cursors.{AreFinished, ArePassed, Awaits, IsFinished, IsNoted, has_early_rule_in, lets};
+ghost use Rattle.bf_due.specs.Cursors.{AreFinished, ArePassed, IsFinished, IsNoted, has_early_rule_in, lets};
+ghost use Rattle.bf_due.specs.inner.Cursors.{Awaits};
 ghost use Rattle.bf_due.specs.Stirring.{all_settled};
 
 use bf_core::{Cell, Core, Instance, Phase};

@@ -6,7 +6,8 @@ ghost use Rattle.bf_core.specs.Events.{next_run};
 ghost use Rattle.bf_core.specs.Cores.{Backfill, IsReplay, IsThere, MayCome, moved};
 ghost use Rattle.bf_due.specs.Steps.{IsNextStep};
 ghost use Rattle.bf_due.specs.Cursors.{AreNoted};
-ghost use Rattle.bf_due.specs.Dues.{HasAdded, HasRoomForSteps, IsOfRunBelow, IsUpToDate, SpeaksOfTask};
+ghost use Rattle.bf_due.specs.Dues.{HasAdded, HasRoomForSteps, IsUpToDate};
+ghost use Rattle.bf_due.specs.inner.Dues.{IsOfRunBelow, SpeaksOfTask};
 
 use crate::agenda::Agenda;
 use crate::asking::{add_open, add_steps_after, add_steps_of_run, drop_outdated_steps};

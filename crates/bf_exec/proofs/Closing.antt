@@ -16,7 +16,8 @@ use Rattle.bf_lane.specs.Lanes.{FourLists, answered, asked, asked_by}
 use Rattle.bf_lane.specs.Open.{Scheduled}
 use Rattle.bf_lane.proofs.Serving.{answered_append, asked_append}
 use Rattle.bf_exec.specs.Accounts.{gathered_sum, submitted_sum}
-use Rattle.bf_exec.specs.Faults.{IsFaultOf, MayFail, MayHalt}
+use Rattle.bf_exec.specs.Faults.{MayFail, MayHalt}
+use Rattle.bf_exec.specs.inner.Faults.{IsFaultOf}
 use Rattle.bf_exec.specs.Turns.{HasStranger}
 use Rattle.bf_exec.specs.declared.turn_fault.TurnFault.{TurnFault}
 use Rattle.bf_exec.proofs.Members.{Runs, runs_there}

@@ -11,7 +11,8 @@ use Rattle.bf_core.proofs.RunningTries.{asked_in, fewer_running, more_running, r
 use Rattle.bf_lane.specs.declared.messages.Answer.TheVariants.{Done}
 use Rattle.bf_lane.specs.Open.{Scheduled}
 use Rattle.bf_lane.specs.Rounds.{IsGathered, IsSubmitted}
-use Rattle.bf_exec.specs.Accounts.{AreUnused, IsInStep, NoneStopped, gathered_sum, submitted_sum}
+use Rattle.bf_exec.specs.Accounts.{IsInStep, NoneStopped, gathered_sum, submitted_sum}
+use Rattle.bf_exec.specs.inner.Accounts.{AreUnused}
 use Rattle.bf_exec.proofs.Sums.{gathered_length, gathered_more, gathered_runs, gathered_submitted, submitted_gathered, submitted_length, submitted_more, submitted_runs, unused_gathered, unused_runs, unused_submitted}
 
 -- ---- one event

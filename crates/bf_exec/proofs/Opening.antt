@@ -6,7 +6,8 @@ use Rattle.bf_core.specs.Cores.{Backfill, opening}
 use Rattle.bf_core.proofs.Driven.{driven_opening}
 use Rattle.bf_lane.specs.Open.{Scheduled}
 use Rattle.bf_sched.specs.Scheduling.{Schedule}
-use Rattle.bf_exec.specs.Accounts.{AreUnused, IsInStep}
+use Rattle.bf_exec.specs.Accounts.{IsInStep}
+use Rattle.bf_exec.specs.inner.Accounts.{AreUnused}
 use Rattle.bf_exec.specs.Turns.{AreInStep}
 use Rattle.bf_exec.proofs.Keeping.{opening_in_step}
 

@@ -9,7 +9,8 @@ use Rattle.bf_core.specs.Events.{after, replay}
 use Rattle.bf_core.specs.Running.{running_now}
 use Rattle.bf_core.specs.Endings.{Ending, ending_of}
 use Rattle.bf_sched.specs.Scheduling.{Schedule}
-use Rattle.bf_exec.specs.Shown.{AreShown, HasShown, ShowsLast, WasShown}
+use Rattle.bf_exec.specs.Shown.{AreShown, HasShown}
+use Rattle.bf_exec.specs.inner.Shown.{ShowsLast, WasShown}
 
 -- ---- the event that came last
 

@@ -3,8 +3,8 @@ use Rattle.std.proofs.Common.{◌≡◌, ◌<◌, ◌++◌, ◌∷◌, ℕ, zero
 use Rattle.bf_lane.specs.declared.queues.Queues.{Queues}
 use Rattle.bf_lane.specs.declared.queues.Seats.{Seats}
 use Rattle.bf_lane.specs.Open.{IsFresh, Scheduled, scheduled}
-use Rattle.bf_exec.specs.Accounts.{AreUnused}
-use Rattle.bf_exec.specs.Starting.{AreFresh}
+use Rattle.bf_exec.specs.inner.Accounts.{AreUnused}
+use Rattle.bf_exec.specs.inner.Starting.{AreFresh}
 
 module _ {K : Type 0} where
   fresh_more : (qs : List (Queues K)) (ss : List (Seats K)) (q : Queues K) (s : Seats K) → AreFresh qs ss → IsFresh q s → AreFresh (qs ++ q ∷ []) (ss ++ s ∷ [])

@@ -14,7 +14,8 @@ use Rattle.bf_lane.specs.Lanes.{all_runs, answered, asked, asked_by}
 use Rattle.bf_lane.specs.Open.{IsIdleAt, Scheduled, scheduled, awaits}
 use Rattle.bf_lane.specs.Rounds.{IsGathered, IsSubmitted}
 use Rattle.bf_lane.proofs.Serving.{all_runs_run, answered_append, asked_append}
-use Rattle.bf_exec.specs.Accounts.{AreUnused, NoneStopped, gathered_sum, submitted_sum}
+use Rattle.bf_exec.specs.Accounts.{NoneStopped, gathered_sum, submitted_sum}
+use Rattle.bf_exec.specs.inner.Accounts.{AreUnused}
 
 -- the sum over the lanes, of which one has changed
 lanes_set : (f : Scheduled → ℕ) (lanes : List Scheduled) (at : ℕ) (lane new : Scheduled) → slice_get lanes at ≡ Some lane → sum_by f (slice_set lanes at new) + f lane ≡ sum_by f lanes + f new

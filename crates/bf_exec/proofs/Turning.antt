@@ -19,7 +19,8 @@ use Rattle.bf_lane.specs.Rounds.{IsGathered, IsSubmitted}
 use Rattle.bf_exec.specs.Accounts.{IsInStep}
 use Rattle.bf_sched.specs.Driving.{StaysDriven}
 use Rattle.bf_sched.proofs.Driving.{begun_driven, finished_driven, same_driven, stays_driven, ticked_driven}
-use Rattle.bf_exec.specs.Turns.{AreAmong, AreInStep, EndsAtOnce, EndsBy, EndsWait, HasAwaited, HasCaughtUp, HasStranger, IsHaltBy, IsHaltOf, IsLeftBy, IsStrange, MustAwait}
+use Rattle.bf_exec.specs.Turns.{AreAmong, AreInStep, EndsAtOnce, EndsBy, EndsWait, HasAwaited, HasCaughtUp, HasStranger, IsHaltOf, IsStrange, MustAwait}
+use Rattle.bf_exec.specs.inner.Turns.{IsHaltBy, IsLeftBy}
 use Rattle.bf_exec.specs.declared.turn_fault.TurnFault.{TurnFault}
 use Rattle.bf_exec.proofs.Keeping.{IsStill, begin_in_step, end_in_step, made_in_step, still_in_step, tick_in_step}
 use Rattle.bf_exec.proofs.Sums.{first_idle, some_idle}

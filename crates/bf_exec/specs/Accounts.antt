@@ -4,7 +4,7 @@ use Rattle.bf_try.specs.Asked.{Asked}
 use Rattle.bf_core.specs.Cores.{Backfill, IsReplay}
 use Rattle.bf_core.specs.Running.{running_tries}
 use Rattle.bf_lane.specs.Lanes.{all_runs, answered, asked}
-use Rattle.bf_lane.specs.Open.{Scheduled, scheduled}
+use Rattle.bf_lane.specs.Open.{Scheduled}
 
 -- the sum of h over the tries that were submitted to all lanes
 abbrev pub submitted_sum : (Asked → ℕ) → List Scheduled → ℕ
@@ -23,11 +23,6 @@ pub record IsAccounted (lanes : List Scheduled) (b : Backfill) : Type 0 where
 abbrev pub NoneStopped : List Scheduled → Type 0
 NoneStopped [] = Unit {0}
 NoneStopped (lane ∷ lanes) = (all_runs lane.submitted ≡ true) × NoneStopped lanes
-
--- nothing has gone over the lanes
-abbrev pub AreUnused : List Scheduled → Type 0
-AreUnused [] = Unit {0}
-AreUnused (lane ∷ lanes) = (lane ≡ scheduled [] []) × AreUnused lanes
 
 -- there is a lane for each worker, and what runs is what was submitted and not gathered
 pub record IsInStep (lanes : List Scheduled) (b : Backfill) (workers : ℕ) : Type 0 where

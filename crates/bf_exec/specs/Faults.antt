@@ -1,5 +1,4 @@
 -- Which halts and faults may be.
-use Rattle.std.specs.Prelude.{◌≡◌}
 use Rattle.bf_core.specs.Terms.{Given, JobName}
 use Rattle.bf_core.specs.Answered.{MayFault}
 use Rattle.bf_core.specs.declared.fault.BackfillFault.{BackfillFault}
@@ -15,9 +14,3 @@ MayHalt may_give_up TurnFault.Stranger = Unit {0}
 abbrev pub MayFail : (JobName → Given → Type 0) → BackfillFault → Type 0
 MayFail may_give_up BackfillFault.Start = Unit {0}
 MayFail may_give_up fault = MayFault may_give_up fault
-
--- the fault that a halt is; none is a stranger's
-abbrev pub IsFaultOf : TurnFault → BackfillFault → Type 0
-IsFaultOf TurnFault.OutOfMemory fault = fault ≡ BackfillFault.OutOfMemory
-IsFaultOf (TurnFault.Runner n) fault = fault ≡ BackfillFault.Runner n
-IsFaultOf TurnFault.Stranger fault = ⊥

@@ -2,4 +2,4 @@ pub mod Accounts
 pub mod Faults
 pub mod Shown
 pub mod Turns
-pub mod Starting
+pub mod inner

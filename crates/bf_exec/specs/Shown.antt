@@ -3,10 +3,9 @@ use Rattle.std.specs.Prelude.{◌≡◌, ◌++◌, ℕ, List, [], ◌∷◌, Opt
 use Rattle.bf_core.specs.Terms.{Dag}
 use Rattle.bf_core.specs.declared.event.Event.{Event}
 use Rattle.bf_core.specs.declared.state.State.{State}
-use Rattle.bf_core.specs.Cores.{Backfill, moved}
-use Rattle.bf_core.specs.Events.{after, replay, start}
+use Rattle.bf_core.specs.Cores.{Backfill}
+use Rattle.bf_core.specs.Events.{after, replay}
 use Rattle.bf_core.specs.Running.{running_now}
-use Rattle.bf_core.specs.Endings.{Ending}
 
 -- by `shows old event running new`, an observer may have become `new` when it was shown an event while so many tries ran
 module _ {S : Type 0} (shows : S → Event → ℕ → S → Type 0) where
@@ -22,16 +21,6 @@ module _ {S : Type 0} (shows : S → Event → ℕ → S → Type 0) where
   AreShown dag state (event ∷ events) old new =
       (between : S) × shows old event (running_now (after dag state event)) between
       × AreShown dag (after dag state event) events between new
-
-  -- each event of the backfill was shown
-  abbrev pub WasShown : Dag → ℕ → S → S → Ending → Type 0
-  WasShown dag runs old new ended = AreShown dag (start dag runs) ended.journal old new
-
-  -- the event that came last was shown
-  abbrev pub ShowsLast : S → S → Backfill → Type 0
-  ShowsLast old new backfill =
-      (before : Backfill) (event : Event) → backfill ≡ moved before event
-      → shows old event (running_now backfill.state) new
 
   -- the events by which the backfill has grown were shown
   pub record HasShown (old new : S) (before now : Backfill) : Type 0 where

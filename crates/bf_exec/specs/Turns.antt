@@ -1,5 +1,5 @@
 -- What a turn of the executor does.
-use Rattle.std.specs.Prelude.{◌≡◌, ◌⊎◌, ℕ, ℤ, ◌≤ℤ◌, Bool, true, false, List, Option, None, Some}
+use Rattle.std.specs.Prelude.{◌≡◌, ◌⊎◌, ℕ, ℤ, ◌≤ℤ◌, Bool, true, false, List}
 use Rattle.std.specs.Int.{int_min}
 use Rattle.bf_try.specs.Asked.{Asked, Answered}
 use Rattle.bf_try.specs.declared.runner.RunnerFault.TheVariants.{GaveUp}
@@ -119,22 +119,11 @@ AreInStep lanes s = IsInStep lanes s.backfill s.workers
 
 -- ---- halts
 
--- the moment that was waited for has come, where there is one
-abbrev pub IsPast : Option ℤ → ℤ → Type 0
-IsPast None now = ⊥
-IsPast (Some moment) now = moment ≤ℤ now
-
 -- no try that runs has the name of the answer, with what was given to it
 pub record IsStrange (answer : Answered) (s t : Schedule) : Type 0 where
   pub now : ℤ
   pub caught_up : HasCaughtUp now s t
   pub refused : ¬ (MayFinish t.backfill answer)
-
--- why the try of the answer didn't end
-abbrev pub IsHaltBy : Answered → Schedule → Schedule → TurnFault → Type 0
-IsHaltBy answer s t TurnFault.OutOfMemory = Unit {0}
-IsHaltBy answer s t (TurnFault.Runner n) = ⊥
-IsHaltBy answer s t TurnFault.Stranger = IsStrange answer s t
 
 -- a giving up of this try was gathered
 pub record GaveUpOn (lanes after : List Scheduled) (n : JobName) : Type 0 where
@@ -165,9 +154,3 @@ abbrev pub IsHaltOf : List Scheduled → List Scheduled → TurnFault → Type 0
 IsHaltOf lanes after TurnFault.OutOfMemory = (after ≡ lanes) ⊎ HasGatheredOther lanes after
 IsHaltOf lanes after (TurnFault.Runner n) = GaveUpOn lanes after n
 IsHaltOf lanes after TurnFault.Stranger = HasStranger lanes after
-
--- where a stranger came, these lanes have gathered it
-abbrev pub IsLeftBy : List Scheduled → TurnFault → Type 0
-IsLeftBy after TurnFault.OutOfMemory = Unit {0}
-IsLeftBy after (TurnFault.Runner n) = Unit {0}
-IsLeftBy after TurnFault.Stranger = (lanes : List Scheduled) × HasStranger lanes after

@@ -5,8 +5,10 @@ ghost use Rattle.bf_lane.specs.Closing.{ClosesAll};
 ghost use Rattle.bf_lane.specs.Lanes.{IsAllowedBy};
 ghost use Rattle.bf_lane.specs.Rounds.{IsGathered};
 ghost use Rattle.bf_exec.specs.Faults.{MayHalt};
-ghost use Rattle.bf_exec.specs.Shown.{HasShown, ShowsLast};
-ghost use Rattle.bf_exec.specs.Turns.{AreAmong, AreInStep, EndsAtOnce, EndsBy, EndsWait, HasCaughtUp, IsHaltBy, IsHaltOf, IsPast, IsTurn};
+ghost use Rattle.bf_exec.specs.Shown.{HasShown};
+ghost use Rattle.bf_exec.specs.inner.Shown.{ShowsLast};
+ghost use Rattle.bf_exec.specs.Turns.{AreAmong, AreInStep, EndsAtOnce, EndsBy, EndsWait, HasCaughtUp, IsHaltOf, IsTurn};
+ghost use Rattle.bf_exec.specs.inner.Turns.{IsHaltBy, IsPast};
 ghost use Rattle.bf_sched.specs.Driving.{IsUnderWay, StaysDriven};
 
 use crate::at_once::AnswerAtOnce;

@@ -1,16 +1,19 @@
 //! Backfills by several workers.
 ghost use Rattle.std.specs.Prelude.{◌≡◌, ◌≢◌, IfOk, IfErr, OnOk, length};
 ghost use Rattle.bf_core.specs.Answered.{AreGraded};
-ghost use Rattle.bf_core.specs.Driven.{IsOver};
+ghost use Rattle.bf_core.specs.inner.Driven.{IsOver};
 ghost use Rattle.bf_core.specs.Endings.{IsEndOf, KeepsWorkers};
 ghost use Rattle.bf_core.specs.Events.{HasEnded, entry_in};
 ghost use Rattle.bf_lane.specs.Open.{Fulfils};
-ghost use Rattle.bf_exec.specs.Accounts.{AreUnused};
-ghost use Rattle.bf_exec.specs.Faults.{IsFaultOf, MayFail, MayHalt};
-ghost use Rattle.bf_exec.specs.Shown.{HasShown, WasShown};
-ghost use Rattle.bf_exec.specs.Starting.{AreFresh};
+ghost use Rattle.bf_exec.specs.inner.Accounts.{AreUnused};
+ghost use Rattle.bf_exec.specs.Faults.{MayFail, MayHalt};
+ghost use Rattle.bf_exec.specs.inner.Faults.{IsFaultOf};
+ghost use Rattle.bf_exec.specs.Shown.{HasShown};
+ghost use Rattle.bf_exec.specs.inner.Shown.{WasShown};
+ghost use Rattle.bf_exec.specs.inner.Starting.{AreFresh};
 ghost use Rattle.bf_sched.specs.Driving.{StaysDriven};
-ghost use Rattle.bf_exec.specs.Turns.{AreAmong, AreInStep, IsLeftBy};
+ghost use Rattle.bf_exec.specs.Turns.{AreAmong, AreInStep};
+ghost use Rattle.bf_exec.specs.inner.Turns.{IsLeftBy};
 ghost use Rattle.bf_exec.specs.declared.turn_fault.TurnFault.{TurnFault};
 
 use crate::at_once::{AnswerAtOnce, ByWorkers};

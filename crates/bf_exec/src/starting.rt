@@ -1,9 +1,9 @@
 //! The start of the workers.
 ghost use Rattle.std.specs.Prelude.{◌≡◌, IfOk, IfErr, length, vec_len};
 ghost use Rattle.bf_lane.specs.Open.{Fulfils};
-ghost use Rattle.bf_exec.specs.Accounts.{AreUnused};
+ghost use Rattle.bf_exec.specs.inner.Accounts.{AreUnused};
 ghost use Rattle.bf_exec.specs.Faults.{MayFail};
-ghost use Rattle.bf_exec.specs.Starting.{AreFresh};
+ghost use Rattle.bf_exec.specs.inner.Starting.{AreFresh};
 
 use crate::order::Shared;
 use bf_core::BackfillFault;

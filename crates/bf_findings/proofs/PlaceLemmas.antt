@@ -13,7 +13,8 @@ use Rattle.bf_findings.specs.Places.{value_in}
 use Rattle.bf_findings.specs.Forms.{form_in}
 use Rattle.bf_findings.specs.Listed.{places_in}
 use Rattle.bf_findings.specs.Judging.{IsWrong}
-use Rattle.bf_findings.specs.Faults.{AreFaults, IsFault}
+use Rattle.bf_findings.specs.Faults.{IsFault}
+use Rattle.bf_findings.specs.inner.Faults.{AreFaults}
 use Rattle.bf_findings.specs.Findings.{IsFinding, IsTold, TellsAll}
 
 pub on_ok : {A E P Q : Type 0} (r : Result A E) → OnOk r P → (P → Q) → OnOk r Q

@@ -1,5 +1,5 @@
 -- What is wrong at a place of a document, as it is told.
-use Rattle.std.specs.Prelude.{◌≡◌, ◌<◌, ◌≤◌, ℕ, List, length, map, All, Contains, nat_le, codes, if◌then◌else◌, Option, Some, None, option_and_then}
+use Rattle.std.specs.Prelude.{◌≡◌, ℕ, List, length, nat_le, codes, if◌then◌else◌, Option, Some, None, option_and_then}
 use Rattle.serde_json.specs.Data.{Data}
 use Rattle.serde_json.specs.Find.{as_str}
 use Rattle.bf_findings.specs.declared.place.DocumentPlace.{DocumentPlace}
@@ -9,7 +9,6 @@ use Rattle.bf_findings.specs.declared.finding.Fault.{Fault}
 use Rattle.bf_findings.specs.Places.{value_in}
 use Rattle.bf_findings.specs.Forms.{form_in}
 use Rattle.bf_findings.specs.Judging.{IsWrong}
-use Rattle.bf_findings.specs.Listed.{places_in}
 use Rattle.bf_findings.specs.Shown.{shown_in}
 use Rattle.bf_findings.specs.Names.{meant_name_of, names_of}
 use Rattle.bf_findings.specs.Nearest.{lowered, IsSuggested}
@@ -49,11 +48,3 @@ pub record IsFault (file : Option (List ℕ)) (d : Data) (fault : Fault) : Type 
   pub stands_is : fault.stands ≡ told_value_in fault.place (value_in d fault.place)
   pub suggestion_is : IsSuggestionFor d fault.form
       (sought_text_in fault.place (value_in d fault.place)) fault.suggestion
-
--- what is wrong at the places of the document: all of it, or a hundred faults
-pub record AreFaults (file : Option (List ℕ)) (d : Data) (faults : List Fault) : Type 0 where
-  pub few : length faults ≤ 100
-  pub each : All (IsFault file d) faults
-  pub all : length faults < 100 → (place : DocumentPlace) → Contains (places_in d) place
-      → IsWrong file d place (form_in d place) (value_in d place)
-      → Contains (map (λ fault. fault.place) faults) place

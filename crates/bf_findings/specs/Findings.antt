@@ -32,11 +32,6 @@ IsRefusal graph file (Check fault) =
     (draft : Draft) × (graph_in graph ≡ Ok (graph_file_of draft)) × IsFaultOf draft file fault
     × (fault ≢ check.OutOfMemory)
 
--- why the bytes are refused, or nothing where they are accepted
-abbrev pub IsRefusedFor : List ℕ → Option (List ℕ) → Option Refusal → Type 0
-IsRefusedFor graph file None = IsAcceptedFile graph file
-IsRefusedFor graph file (Some refusal) = IsRefusal graph file refusal
-
 -- what is told is so: the bytes are no JSON, or something is wrong at a place of their document, or the bytes are refused for it
 abbrev pub IsFinding : List ℕ → Option (List ℕ) → Finding → Type 0
 IsFinding graph file (NotJson line column) = data_in graph ≡ None

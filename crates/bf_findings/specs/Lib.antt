@@ -10,3 +10,4 @@ pub mod Nearest
 pub mod Faults
 pub mod Texts
 pub mod Findings
+pub mod inner

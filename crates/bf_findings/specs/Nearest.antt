@@ -2,7 +2,6 @@
 use Rattle.std.specs.Prelude.{◌≡◌, ℕ, ◌≤◌, ◌*◌, List, [], map, length, max, Contains, Bool, true, false, nat_eq, nat_lt, Option, Some, None, ◌⊎◌}
 use Rattle.std.specs.Char.{to_ascii_lowercase}
 use Rattle.std.specs.Str.{chars}
-use Rattle.bf_findings.specs.declared.nearest.Found.{Found}
 use Rattle.strsim.specs.Edits.{levenshtein_row}
 
 abbrev pub lowered : List ℕ → List ℕ
@@ -22,11 +21,6 @@ pub record IsNearestTo (text : List ℕ) (names : List (List ℕ)) (name : List 
   pub known : Contains names name
   pub is_distance : distance ≡ distance_to text name
   pub none_nearer : (other : List ℕ) → Contains names other → distance ≤ distance_to text other
-
--- the best of some names, if there are any
-abbrev pub IsBest : List ℕ → List (List ℕ) → Option Found → Type 0
-IsBest text names None = names ≡ []
-IsBest text names (Some found) = IsNearestTo text names found.name.now found.distance
 
 -- less than half of the longer text is edited
 abbrev pub is_near_in : List ℕ → List ℕ → ℕ → Bool

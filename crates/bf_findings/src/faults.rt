@@ -1,7 +1,8 @@
 //! What is wrong at the places of a document.
 ghost use Rattle.std.specs.Prelude.{◌≡◌, option_map, IfSome, IfNone, IfOk};
 ghost use Rattle.serde_json.specs.View.{view};
-ghost use Rattle.bf_findings.specs.Faults.{sought_text_in, told_value_in, AreFaults, IsFault, IsSuggestion, IsSuggestionFor};
+ghost use Rattle.bf_findings.specs.Faults.{sought_text_in, told_value_in, IsFault, IsSuggestion, IsSuggestionFor};
+ghost use Rattle.bf_findings.specs.inner.Faults.{AreFaults};
 ghost use Rattle.bf_findings.specs.Forms.{form_in};
 ghost use Rattle.bf_findings.specs.Judging.{IsWrong};
 ghost use Rattle.bf_findings.specs.Places.{value_in};

@@ -3,7 +3,8 @@ ghost use Rattle.std.specs.Prelude.{◌≡◌, ◌<◌, ◌≤◌, ℕ, List, le
 ghost use Rattle.serde_json.specs.View.{view};
 ghost use Rattle.bf_read.specs.Reading.{data_in};
 ghost use Rattle.bf_findings.specs.declared.finding.Finding.TheVariants.{Fault};
-ghost use Rattle.bf_findings.specs.Findings.{AreFindings, IsFinding, IsRefusedFor, TellsAll};
+ghost use Rattle.bf_findings.specs.Findings.{AreFindings, IsFinding, TellsAll};
+ghost use Rattle.bf_findings.specs.inner.Findings.{IsRefusedFor};
 
 use crate::finding::{Fault, Finding};
 use crate::judging::Document;

@@ -1,6 +1,7 @@
 //! The known name that is nearest to a text.
 ghost use Rattle.std.specs.Prelude.{◌≡◌, ℕ, List, [], ◌∷◌, ◌++◌, map, option_map, IfOk};
-ghost use Rattle.bf_findings.specs.Nearest.{distance_to, IsBest, IsNearestTo, is_near_in, IsSuggested};
+ghost use Rattle.bf_findings.specs.Nearest.{distance_to, IsNearestTo, is_near_in, IsSuggested};
+ghost use Rattle.bf_findings.specs.inner.Nearest.{IsBest};
 
 use bf_value::OutOfMemory;
 use std::alloc::Global;

@@ -2,7 +2,7 @@
 ghost use Rattle.std.specs.Prelude.{◌≡◌, IfOk};
 ghost use Rattle.clap.specs.Words.{App, app_of};
 ghost use Rattle.bf_grammar.specs.Grammar.{answered_app, backfill_app, bare_app, check_app, clear_app, cleared_app, completions_app, dated_app, dry_app, list_app, over_graph_app, programs_app, ranged_app, run_app, running_app, schema_app, show_app, showing_app, single_app, viewing_app};
-ghost use Rattle.bf_grammar.specs.Drafts.{IsDraftOf};
+ghost use Rattle.bf_grammar.specs.inner.Drafts.{IsDraftOf};
 
 use crate::argument::{
     color_option, explain_flag, failed_flag, from_option, graph_argument, index_option,

@@ -1,7 +1,7 @@
 //! Commands in the making.
 ghost use Rattle.std.specs.Prelude.{◌≡◌, IfOk, true};
 ghost use Rattle.clap.specs.Words.{App, Rule, app_of, new_app, rule_of, with_rule, with_subcommand};
-ghost use Rattle.bf_grammar.specs.Drafts.{IsDraftOf};
+ghost use Rattle.bf_grammar.specs.inner.Drafts.{IsDraftOf};
 
 use clap::{Arg, Command};
 use std::alloc::{AllocError, Global};

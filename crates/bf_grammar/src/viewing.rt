@@ -2,7 +2,7 @@
 ghost use Rattle.std.specs.Prelude.{◌≡◌};
 ghost use Rattle.clap.specs.Words.{rule_of};
 ghost use Rattle.bf_grammar.specs.Grammar.{answers_app, explain_app, journal_rule, one_index_rule, one_run_rule, one_task_rule, over_report_app, page_app, states_only_rule};
-ghost use Rattle.bf_grammar.specs.Drafts.{IsDraftOf};
+ghost use Rattle.bf_grammar.specs.inner.Drafts.{IsDraftOf};
 
 use crate::argument::{option_with_value, positional, required_option};
 use crate::command::new_graph_command;

@@ -8,10 +8,10 @@ use Rattle.std.proofs.lemmas.List.Quantifiers.{all_pairs_push}
 use Rattle.std.proofs.Math.Seq.{get_or-append_seam}
 use Rattle.bf_graph.specs.declared.climb.Climb.{Climb}
 use Rattle.bf_graph.specs.Edges.{lists, upstreams_of, IsUpstream, AreInRange}
-use Rattle.bf_graph.specs.Ranks.{rank_at, HasUnranked}
+use Rattle.bf_graph.specs.inner.Ranks.{rank_at, HasUnranked}
 use Rattle.bf_graph.specs.Reach.{IsPath, is_marked_in}
-use Rattle.bf_graph.specs.Cycles.{HasCycle}
-use Rattle.bf_graph.specs.Climbs.{AreRankedBetween, IsFirstUnranked, Climbs, IsOnPath, IsClimb, IsClimbing}
+use Rattle.bf_graph.specs.inner.Cycles.{HasCycle}
+use Rattle.bf_graph.specs.inner.Climbs.{AreRankedBetween, IsFirstUnranked, Climbs, IsOnPath, IsClimb, IsClimbing}
 use Rattle.bf_graph.proofs.PathLemmas.{edge_before}
 use Rattle.bf_graph.proofs.RankLemmas.{upstreams_read}
 

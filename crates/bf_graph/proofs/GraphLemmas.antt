@@ -4,7 +4,7 @@ use Rattle.std.proofs.lemmas.List.{get_or-map, length-map}
 use Rattle.std.proofs.Math.ListN.{get_or-map as get_or-map_default}
 use Rattle.bf_graph.specs.Shape.{HasRanks}
 use Rattle.bf_graph.specs.Edges.{lists, AreInRange, IsRank}
-use Rattle.bf_graph.specs.Ranks.{rank_at, AreRanks, AreBelow, AreFound, AllRanked}
+use Rattle.bf_graph.specs.inner.Ranks.{rank_at, AreRanks, AreBelow, AreFound, AllRanked}
 
 -- the ranks without their marks
 pub has_ranks : (ups : List (List ℕ)) (ranks : List (Option ℕ)) → length ups ≡ length ranks → AreInRange ups → AreRanks ups ranks → AreBelow ranks (length ups) → AllRanked ranks → HasRanks ups (map (λ r. unwrap_or r 0) ranks)

@@ -5,7 +5,7 @@ use Rattle.std.proofs.lemmas.Bool.Decides.{eqb_tells}
 use Rattle.std.proofs.lemmas.List.{get_or_default, length-map, map_push, get_or-set_same, get_or-set_other, get_or_append_left, get_or_push, length-set}
 use Rattle.bf_graph.specs.Edges.{upstreams_of, IsUpstream}
 use Rattle.bf_graph.specs.Reach.{IsPath, is_marked_in, row_at, rows_of}
-use Rattle.bf_graph.specs.Cycles.{IsLevel, IsAbove, AreAbove, AreLevels}
+use Rattle.bf_graph.specs.inner.Cycles.{IsLevel, IsAbove, AreAbove, AreLevels}
 use Rattle.bf_graph.proofs.PathLemmas.{edge_before, first_edge, task_within}
 use Rattle.bf_graph.proofs.ReachLemmas.{row_read}
 

@@ -8,7 +8,8 @@ use Rattle.std.proofs.lemmas.List.Elements.{All-from_get_or, All-map, Contains-g
 use Rattle.std.proofs.Math.Seq.{get_or-append_seam}
 use Rattle.bf_graph.specs.Edges.{lists, upstreams_of, IsUpstream, AreInRange}
 use Rattle.bf_graph.specs.Reach.{Reaches, is_marked_in, rows_of, row_at, HasRows}
-use Rattle.bf_graph.specs.Lookups.{IsRisingListOf, IsLeaf, AreDownstreams, AreDownstreamsBelow}
+use Rattle.bf_graph.specs.Lookups.{IsRisingListOf, IsLeaf, AreDownstreams}
+use Rattle.bf_graph.specs.inner.Lookups.{AreDownstreamsBelow}
 use Rattle.bf_graph.proofs.PathLemmas.{none_in, task_within, first_edge}
 use Rattle.bf_graph.proofs.LevelLemmas.{IsOneBelow}
 use Rattle.bf_graph.proofs.RankLemmas.{upstreams_read}

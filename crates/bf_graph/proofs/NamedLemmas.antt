@@ -11,7 +11,8 @@ use Rattle.std.proofs.lemmas.Cmp.{nat_list_cmp_total}
 use Rattle.std.proofs.lemmas.Map.Text.{is_eq-slice_cmp}
 use Rattle.bf_graph.specs.Edges.{IsUpstream, IsChain, IsCycle}
 use Rattle.bf_graph.specs.Reach.{IsPath, Reaches, rows_of}
-use Rattle.bf_graph.specs.Cycles.{IsCycleFrom, IsNamedCycle, IsLevel, IsAbove, AreLevels, IsEarliestNext, IsFirstShortest, AreReaching, HasCycle}
+use Rattle.bf_graph.specs.Cycles.{IsCycleFrom, IsNamedCycle}
+use Rattle.bf_graph.specs.inner.Cycles.{IsLevel, IsAbove, AreLevels, IsEarliestNext, IsFirstShortest, AreReaching, HasCycle}
 use Rattle.bf_graph.proofs.PathLemmas.{task_within, first_edge, chain_path, cycle_reaches}
 
 -- from v, the earliest task each time from which the edges that are left lead to s

@@ -13,7 +13,8 @@ use Rattle.std.proofs.lemmas.List.Sorted.{All-permutation, Contains-permutation,
 use Rattle.std.proofs.lemmas.Map.Keys.{IsDistinct-IsPermutation, IsDistinct-from_apart, apart_from_distinct}
 use Rattle.std.proofs.lemmas.Option.{get_or_from_slice_get, same_Some, slice_get-get_or, slice_get_within}
 use Rattle.bf_graph.specs.Edges.{IsRank}
-use Rattle.bf_graph.specs.Order.{IsByRank, StandBehind, ranked_tasks, pair_cmp}
+use Rattle.bf_graph.specs.Order.{IsByRank, StandBehind}
+use Rattle.bf_graph.specs.inner.Order.{ranked_tasks, pair_cmp}
 use Rattle.bf_graph.specs.Shape.{HasRanks}
 use Rattle.bf_graph.proofs.AcyclicLemmas.{rank_rises}
 

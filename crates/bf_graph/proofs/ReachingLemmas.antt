@@ -7,7 +7,7 @@ use Rattle.std.proofs.lemmas.List.Elements.{Contains-get_or, Contains-append_lef
 use Rattle.std.proofs.Math.Seq.{get_or-append_seam}
 use Rattle.bf_graph.specs.Edges.{lists, upstreams_of, IsUpstream, AreInRange}
 use Rattle.bf_graph.specs.Reach.{IsPath, Reaches, is_marked_in, IsRow}
-use Rattle.bf_graph.specs.Cycles.{unmarked_in, AreMarked, AreAdded, AreReaching}
+use Rattle.bf_graph.specs.inner.Cycles.{unmarked_in, AreMarked, AreAdded, AreReaching}
 use Rattle.bf_graph.proofs.PathLemmas.{edge_before, first_edge}
 
 -- ---- marks

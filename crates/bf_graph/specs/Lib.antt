@@ -3,7 +3,7 @@ pub mod Ranks
 pub mod Shape
 pub mod Faults
 pub mod Reach
-pub mod Climbs
 pub mod Lookups
 pub mod Cycles
 pub mod Order
+pub mod inner

@@ -21,11 +21,3 @@ downstreams_of downs t = slice_index_or downs t []
 pub record AreDownstreams (ups downs : List (List ℕ)) : Type 0 where
   pub len : length downs ≡ length ups
   pub each : (t : ℕ) → t < length ups → IsRisingListOf (IsUpstream ups t) (downstreams_of downs t)
-
--- ---- while they are found
-
--- the tasks below n of which each is a direct upstream
-pub record AreDownstreamsBelow (ups : List (List ℕ)) (n : ℕ) (downs : List (List ℕ)) : Type 0 where
-  pub len : length downs ≡ length ups
-  pub each : (t : ℕ) → t < length ups
-      → IsRisingListOf (λ d. (d < n) × IsUpstream ups t d) (downstreams_of downs t)

@@ -2,9 +2,9 @@
 ghost use Rattle.std.specs.Prelude.{◌≡◌, ℕ, ◌+◌, ◌^◌, ◌<◌, List, None, Vec, length, Contains, MatchBool, MatchOption, IfOk};
 ghost use Rattle.std.specs.declared.alloc.Global.{Global};
 ghost use Rattle.bf_graph.specs.Edges.{lists, AreInRange};
-ghost use Rattle.bf_graph.specs.Ranks.{rank_at};
-ghost use Rattle.bf_graph.specs.Climbs.{AreAllFound, AreRankedBetween, IsFirstUnranked, IsDown, HasClimbed};
-ghost use Rattle.bf_graph.specs.Cycles.{HasCycle};
+ghost use Rattle.bf_graph.specs.inner.Ranks.{rank_at};
+ghost use Rattle.bf_graph.specs.inner.Climbs.{AreAllFound, AreRankedBetween, IsFirstUnranked, IsDown, HasClimbed};
+ghost use Rattle.bf_graph.specs.inner.Cycles.{HasCycle};
 
 use crate::ranking::Found;
 use crate::reach::row_without_marks;

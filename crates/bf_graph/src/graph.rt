@@ -6,10 +6,11 @@ ghost use Rattle.bf_graph.specs.Edges.{lists, upstreams_of, AreInRange, IsUpstre
 ghost use Rattle.bf_value.specs.Distinct.{AreDistinct};
 ghost use Rattle.bf_graph.specs.Shape.{texts};
 ghost use Rattle.bf_graph.specs.Ranks.{Ranking};
-ghost use Rattle.bf_graph.specs.Climbs.{AreAllFound};
+ghost use Rattle.bf_graph.specs.inner.Climbs.{AreAllFound};
 ghost use Rattle.bf_graph.specs.Reach.{Reaches};
 ghost use Rattle.bf_graph.specs.Lookups.{IsRisingListOf, IsLeaf};
-ghost use Rattle.bf_graph.specs.Order.{IsByRank, StandBehind, pair_cmp, ranked_tasks};
+ghost use Rattle.bf_graph.specs.Order.{IsByRank, StandBehind};
+ghost use Rattle.bf_graph.specs.inner.Order.{pair_cmp, ranked_tasks};
 
 use crate::climb::find_ranks_and_reach;
 use crate::cycles::shortest_cycle_from_earliest;

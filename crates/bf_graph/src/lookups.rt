@@ -3,7 +3,8 @@ ghost use Rattle.std.specs.Prelude.{◌≡◌, ◌+◌, ◌^◌, ◌<◌, ◌≤
 ghost use Rattle.std.specs.List.Sorted.{IsStrictlyIncreasing};
 ghost use Rattle.bf_graph.specs.Edges.{lists, AreInRange};
 ghost use Rattle.bf_graph.specs.Reach.{is_marked_in};
-ghost use Rattle.bf_graph.specs.Lookups.{IsRisingListOf, IsLeaf, AreDownstreams, AreDownstreamsBelow};
+ghost use Rattle.bf_graph.specs.Lookups.{IsRisingListOf, IsLeaf, AreDownstreams};
+ghost use Rattle.bf_graph.specs.inner.Lookups.{AreDownstreamsBelow};
 
 use bf_value::OutOfMemory;
 use std::alloc::Global;

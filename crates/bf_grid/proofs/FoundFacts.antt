@@ -7,7 +7,7 @@ use Rattle.bf_moment.specs.declared.moment.Moment.{Moment}
 use Rattle.bf_plan.specs.declared.plan.Dag.{Dag}
 use Rattle.bf_grid.specs.declared.failed_tasks.Failing.{Failing}
 use Rattle.bf_grid.specs.FailedTasks.{failing_line, failing_text, further_line, id_width_of, placed}
-use Rattle.bf_grid.specs.FoundTasks.{first_fewer, pair_of}
+use Rattle.bf_grid.specs.inner.FoundTasks.{first_fewer, pair_of}
 use Rattle.bf_wording.specs.Numbers.{count_text_of}
 use Rattle.bf_grid.proofs.TextFacts.{three_in_a_row}
 

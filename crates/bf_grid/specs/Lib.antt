@@ -3,6 +3,5 @@ pub mod GridRows
 pub mod Summary
 pub mod Legend
 pub mod FailedTasks
-pub mod FoundTasks
 pub mod Grid
-pub mod GridTables
+pub mod inner

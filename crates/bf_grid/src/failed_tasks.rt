@@ -3,7 +3,7 @@ ghost use Rattle.std.specs.Prelude.{◌≡◌, ◌≤◌, ◌++◌, length, map,
 ghost use Rattle.std.specs.List.{flat_map};
 ghost use Rattle.bf_grid.specs.FailedTasks.{failed_starts_of, failing_of, failing_line, failing_text, further_line, id_width_of, placed};
 ghost use Rattle.bf_wording.specs.Numbers.{count_text_of};
-ghost use Rattle.bf_grid.specs.FoundTasks.{first_fewer, pair_of};
+ghost use Rattle.bf_grid.specs.inner.FoundTasks.{first_fewer, pair_of};
 
 use crate::selection::id_of;
 use bf_marks::{

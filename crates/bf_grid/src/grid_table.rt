@@ -3,7 +3,7 @@ ghost use Rattle.std.specs.Prelude.{◌≡◌, ◌<◌, ◌*◌, ◌++◌, map, 
 ghost use Rattle.std.specs.List.{flat_map};
 ghost use Rattle.bf_marks.specs.Labels.{scale_of};
 ghost use Rattle.bf_grid.specs.Grid.{column_starts, label_lines, margin, start_or};
-ghost use Rattle.bf_grid.specs.GridTables.{row_in, text_in};
+ghost use Rattle.bf_grid.specs.inner.GridTables.{row_in, text_in};
 
 use crate::legend::push_legend;
 use crate::row::{Columns, Layout, push_line};

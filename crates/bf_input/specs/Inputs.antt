@@ -1,15 +1,11 @@
 -- What is read of the files that a line names.
-use Rattle.std.specs.Prelude.{◌≡◌, ◌⊎◌, ℕ, List, ◌∷◌, [], ◌++◌, Ok, Option, None, Some, Vec, option_map, string_bytes}
+use Rattle.std.specs.Prelude.{◌≡◌, ℕ, List, ◌∷◌, [], ◌++◌, Ok, Option, Vec, option_map, string_bytes}
 use Rattle.std.specs.Global.{Global}
 use Rattle.jiff.specs.Types.{TimeZone}
-use Rattle.bf_disk.specs.Files.{AreReadable, Files, IsFirstUntold, IsHeld, IsHeldIfNamed, IsReadable, IsUntold, named_paths}
-use Rattle.bf_disk.specs.declared.source.SourceFault.{SourceFault}
-use Rattle.bf_disk.specs.declared.source.SourceFault.TheVariants as source
+use Rattle.bf_disk.specs.Files.{Files, IsFirstUntold, IsHeld, IsHeldIfNamed, IsReadable, IsUntold, named_paths}
 use Rattle.bf_read.specs.Reading.{GraphFile, graph_in}
 use Rattle.bf_zone.specs.Zones.{Asked, IsZone}
-use Rattle.bf_report.specs.declared.report.Report.{Report}
 use Rattle.bf_report_reader.specs.Faults.{Tells}
-use Rattle.bf_report_reader.specs.Reading.{IsReadAs}
 use Rattle.bf_report_reader.specs.declared.fault.ReportFault.{ReportFault}
 use Rattle.bf_command_line.specs.declared.forms.GraphAsked.{GraphAsked}
 use Rattle.bf_command_fault.specs.declared.fault.CommandFault.{CommandFault}
@@ -72,17 +68,7 @@ pub record AreAlike (graph other : List ℕ) (zone other_zone : Option (List ℕ
 abbrev pub IsWholeGraph : List ℕ → List ℕ → Type 0
 IsWholeGraph held bytes = (file : GraphFile) → graph_in held ≡ Ok file → bytes ≡ held
 
--- this report is read of the file
-pub record IsReadOf (file : Option (Option (List ℕ))) (report : Report) : Type 0 where
-  pub readable : IsReadable file
-  pub says : (held : List ℕ) → IsHeld file held → IsReadAs held report
-
 -- ---- why nothing is
-
--- why there is no answer where a path's file isn't there
-abbrev pub of_source : List ℕ → SourceFault → CommandFault
-of_source path source.CannotRead = CannotRead path
-of_source path source.OutOfMemory = OutOfMemory
 
 -- the first file of these that can't be read, or memory is wanting
 abbrev pub IsReadingFault : Files → List (List ℕ) → CommandFault → Type 0

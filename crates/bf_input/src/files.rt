@@ -5,7 +5,8 @@ ghost use Rattle.bf_table.specs.Tables.{table_in};
 ghost use Rattle.bf_report_reader.specs.Reading.{IsReadAs};
 ghost use Rattle.bf_report_reader.specs.Rules.{IsShownReport};
 ghost use Rattle.bf_disk.specs.Files.{AreReadable, IsHeld, IsReadable, IsHeldIfNamed, named_paths};
-ghost use Rattle.bf_input.specs.Inputs.{OfFiles, OfFilesAndTable, graph_paths, table_paths, AreAlike, IsReadingFault, IsReportFault, IsWholeGraph, MeanAlike, bytes_of, of_source};
+ghost use Rattle.bf_input.specs.Inputs.{OfFiles, OfFilesAndTable, graph_paths, table_paths, AreAlike, IsReadingFault, IsReportFault, IsWholeGraph, MeanAlike, bytes_of};
+ghost use Rattle.bf_input.specs.inner.Inputs.{of_source};
 ghost use Rattle.bf_disk.specs.Source.{IsWholeUpTo};
 
 use bf_command_fault::CommandFault;

@@ -3,3 +3,4 @@ pub mod Fires
 pub mod Intervals
 pub mod Search
 pub mod Runs
+pub mod inner

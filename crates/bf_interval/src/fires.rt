@@ -2,8 +2,10 @@
 ghost use Rattle.std.specs.Prelude.{◌≡◌, ℕ, ◌+◌, ◌*◌, ◌<◌, ◌≤◌, pos, ◌<ℤ◌, MatchOption, OnOk, IfSome, IfNone, IfOk};
 ghost use Rattle.std.specs.List.Sorted.{IsStrictlyIncreasing};
 ghost use Rattle.jiff.specs.Words.{picked_instant, plain_zone};
-ghost use Rattle.bf_cron.specs.Minutes.{IsMinute, IsCivilMinute, minutes};
-ghost use Rattle.bf_interval.specs.Search.{seconds, Collects, IsSettled, AreFirst, AreEnough};
+ghost use Rattle.bf_cron.specs.Minutes.{IsMinute, minutes};
+ghost use Rattle.bf_cron.specs.inner.Minutes.{IsCivilMinute};
+ghost use Rattle.bf_interval.specs.Search.{seconds, Collects, AreFirst, AreEnough};
+ghost use Rattle.bf_interval.specs.inner.Search.{IsSettled};
 
 use crate::listing::MOST_RUNS;
 use crate::rising::{insert_in_order, place_above};

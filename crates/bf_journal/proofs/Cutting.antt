@@ -7,7 +7,8 @@ use Rattle.std.proofs.lemmas.Bool.Decides.{nat_tests}
 use Rattle.std.proofs.lemmas.List.{take_at, take-append-le, length-append}
 use Rattle.std.proofs.lemmas.List.Elements.{All-head, All-tail}
 use Rattle.bf_journal.proofs.Going.{take_past}
-use Rattle.bf_journal.specs.Lines.{IsInLine, lines_after, text_of_lines, whole_lines}
+use Rattle.bf_journal.specs.Lines.{lines_after, text_of_lines, whole_lines}
+use Rattle.bf_journal.specs.inner.Lines.{IsInLine}
 
 -- of the first n bytes of a text of lines, these are the lines that stand there whole: each of them does, and the next doesn't
 pub record IsCutOf (lines : List (List ℕ)) (n : ℕ) (found : List (List ℕ)) : Type 0 where

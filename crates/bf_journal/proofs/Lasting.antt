@@ -4,14 +4,16 @@ use Rattle.std.specs.FinMap as map
 use Rattle.std.specs.Option.{option_or}
 use Rattle.std.specs.Ordering.{eq_by_cmp}
 use Rattle.bf_value.specs.declared.name.JobName.{JobName}
-use Rattle.bf_value.specs.Names.{name_cmp, name_cmp_total}
+use Rattle.bf_value.specs.Names.{name_cmp}
+use Rattle.bf_value.specs.inner.Names.{name_cmp_total}
 use Rattle.bf_plan.specs.declared.plan.Dag.{Dag}
 use Rattle.bf_plan.proofs.ListLemmas.{some_same}
 use Rattle.bf_try.specs.declared.ledger.Entry.{Entry}
 use Rattle.bf_try.specs.Grades.{fits_in}
 use Rattle.bf_try.proofs.Maps.{same_name}
 use Rattle.bf_kept.specs.Kept.{AreFit}
-use Rattle.bf_journal.specs.Found.{AreOfTasks, entry_for, entry_named, last_for}
+use Rattle.bf_journal.specs.Found.{entry_for, entry_named, last_for}
+use Rattle.bf_journal.specs.inner.Found.{AreOfTasks}
 
 or_none : (o : Option Entry) → option_or o None ≡ o
 or_none None = refl

@@ -5,7 +5,7 @@ use Rattle.std.proofs.lemmas.List.{length-map, get_or-map}
 use Rattle.bf_value.specs.Views.{list_of}
 use Rattle.bf_value.specs.declared.xval.Xval.{Xval}
 use Rattle.bf_journal.specs.Records.{optional_value_of}
-use Rattle.bf_journal.specs.Tells.{IsFound}
+use Rattle.bf_journal.specs.inner.Tells.{IsFound}
 use Rattle.bf_journal.proofs.Telling.{items_back, items_in}
 
 -- what is such a thing is one of the other kind, and the other way round

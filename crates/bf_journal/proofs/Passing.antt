@@ -9,7 +9,8 @@ use Rattle.bf_interval.specs.declared.interval.Interval.{Interval}
 use Rattle.bf_try.specs.declared.ledger.Entry.{Entry}
 use Rattle.bf_journal.specs.Lines.{text_of_lines, whole_lines}
 use Rattle.bf_journal.specs.Tells.{Tells, TellAll, TellsLine, TellsNone}
-use Rattle.bf_journal.specs.Found.{AreOfTasks, AreRead, IsFirstBad}
+use Rattle.bf_journal.specs.Found.{AreRead, IsFirstBad}
+use Rattle.bf_journal.specs.inner.Found.{AreOfTasks}
 
 -- ---- tries that values tell
 

@@ -27,7 +27,7 @@ use Rattle.bf_moment.specs.Moment.{moment_text}
 use Rattle.bf_xcom.specs.declared.values.Outcome.{Outcome}
 use Rattle.bf_xcom.specs.declared.values.Outcome.TheVariants.{Success, Failed, Skipped}
 use Rattle.bf_xcom.specs.Pulls.{pushed_by}
-use Rattle.bf_journal.specs.Bare.{BeginsRecord, IsStamp}
+use Rattle.bf_journal.specs.inner.Bare.{BeginsRecord, IsStamp}
 use Rattle.bf_journal.specs.Records.{optional_value_of, outcome_word, record_value}
 use Rattle.bf_journal.specs.Tells.{TellsLine}
 use Rattle.bf_journal.proofs.Reading.{id_of, run_of}

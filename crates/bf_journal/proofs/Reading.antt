@@ -23,7 +23,8 @@ use Rattle.bf_moment.specs.Moment.{moment_text}
 use Rattle.bf_xcom.specs.Pulls.{pushed_by}
 use Rattle.bf_try.specs.declared.ledger.Entry.{Entry}
 use Rattle.bf_journal.specs.Records.{optional_value_of, outcome_word, record_in, record_value}
-use Rattle.bf_journal.specs.Tells.{StartsAt, Tells, TellsEntry, TellsName}
+use Rattle.bf_journal.specs.Tells.{Tells}
+use Rattle.bf_journal.specs.inner.Tells.{StartsAt, TellsEntry, TellsName}
 use Rattle.bf_journal.proofs.Telling.{items_back, items_in}
 
 -- ---- runs and tasks

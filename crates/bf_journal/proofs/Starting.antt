@@ -15,7 +15,7 @@ use Rattle.bf_interval.proofs.OfRuns.{shown_of_runs}
 use Rattle.bf_moment.specs.Moment.{IsShown, IsWhole, Spells, moment_text, nearest}
 use Rattle.bf_moment.proofs.OneText.{one_text}
 use Rattle.bf_plan.proofs.ListLemmas.{some_same}
-use Rattle.bf_journal.specs.Tells.{StartsAt, StartsOn}
+use Rattle.bf_journal.specs.inner.Tells.{StartsAt, StartsOn}
 
 abbrev pub start_of : Interval → ℤ
 start_of run = run.start.nanosecond

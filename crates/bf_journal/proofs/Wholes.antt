@@ -7,7 +7,8 @@ use Rattle.bf_value.specs.declared.xval.Xval.{Xval}
 use Rattle.bf_value.specs.Json.{json_of, value_of_text}
 use Rattle.bf_value.proofs.LackLemmas.{text_lacks}
 use Rattle.bf_value.proofs.TextLemmas.{value_of_text_text_of}
-use Rattle.bf_journal.specs.Lines.{IsInLine, text_of_lines, whole_lines}
+use Rattle.bf_journal.specs.Lines.{text_of_lines, whole_lines}
+use Rattle.bf_journal.specs.inner.Lines.{IsInLine}
 use Rattle.bf_journal.specs.Records.{IsTellable}
 use Rattle.bf_journal.specs.Cuts.{ReadsWholeOnes}
 use Rattle.bf_journal.proofs.Cutting.{IsCutOf, cut}

@@ -1,5 +1,5 @@
 -- What is found of a journal.
-use Rattle.std.specs.Prelude.{◌≡◌, ◌<◌, ◌+◌, ◌++◌, ◌∷◌, ℕ, List, [], length, map, codes, decimal, if◌then◌else◌, Option, Some, None}
+use Rattle.std.specs.Prelude.{◌≡◌, ◌+◌, ◌++◌, ◌∷◌, ℕ, List, [], length, map, codes, decimal, if◌then◌else◌, Option, Some, None}
 use Rattle.std.specs.Option.{option_or}
 use Rattle.std.specs.Ordering.{eq_by_cmp}
 use Rattle.bf_value.specs.declared.name.JobName.{JobName}
@@ -29,11 +29,6 @@ entry_for dag try n = if fits_in dag try.0.task try.1.outcome then entry_named t
 abbrev pub last_for : Dag → List (JobName × Entry) → Ledger
 last_for dag [] n = None
 last_for dag (try ∷ tries) n = option_or (last_for dag tries n) (entry_for dag try n)
-
--- the tries are of tasks that are there
-abbrev pub AreOfTasks : Dag → List (JobName × Entry) → Type 0
-AreOfTasks dag [] = Unit {0}
-AreOfTasks dag (try ∷ tries) = (try.0.task < length dag.tasks) × AreOfTasks dag tries
 
 -- ---- what is read
 
@@ -91,12 +86,6 @@ abbrev pub IsFault : Dag → List Interval → List ℕ → List ℕ → Journal
 IsFault dag intervals head bytes (BadRecord number) = HasBadRecord dag intervals head bytes number
 IsFault dag intervals head bytes Mismatch = IsOfAnother head bytes
 IsFault dag intervals head bytes OutOfMemory = Unit {0}
-
--- the same of the lines behind the head
-abbrev pub IsFaultBehind : Dag → List Interval → List ℕ → JournalFault → Type 0
-IsFaultBehind dag intervals bytes (BadRecord number) = IsFirstBad dag intervals bytes number
-IsFaultBehind dag intervals bytes Mismatch = ⊥
-IsFaultBehind dag intervals bytes OutOfMemory = Unit {0}
 
 -- ---- refusals
 

@@ -8,4 +8,4 @@ pub mod Retrying
 pub mod Since
 pub mod Cuts
 pub mod Left
-pub mod Bare
+pub mod inner

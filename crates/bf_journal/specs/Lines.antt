@@ -1,10 +1,6 @@
 -- Lines, of which each counts once its line feed is there.
-use Rattle.std.specs.Prelude.{◌≡◌, ℕ, ◌==◌, false, List, [], ◌∷◌, ◌++◌, if◌then◌else◌}
-use Rattle.std.specs.List.{flat_map, list_any}
-
--- text within one line
-abbrev pub IsInLine : List ℕ → Type 0
-IsInLine text = list_any (λ byte. byte == 10) text ≡ false
+use Rattle.std.specs.Prelude.{ℕ, ◌==◌, List, [], ◌∷◌, ◌++◌, if◌then◌else◌}
+use Rattle.std.specs.List.{flat_map}
 
 -- lines, each with its line feed
 abbrev pub text_of_lines : List (List ℕ) → List ℕ

@@ -6,7 +6,7 @@ ghost use Rattle.std.specs.List.{list_all};
 ghost use Rattle.json.specs.Print.{quoted};
 ghost use Rattle.json.specs.Run.{is_plain as is_plain_byte};
 ghost use Rattle.bf_xcom.specs.Pulls.{pushed_by};
-ghost use Rattle.bf_journal.specs.Bare.{BeginsRecord, IsStamp};
+ghost use Rattle.bf_journal.specs.inner.Bare.{BeginsRecord, IsStamp};
 ghost use Rattle.bf_journal.specs.Records.{outcome_word};
 ghost use Rattle.bf_journal.specs.Tells.{TellsLine};
 

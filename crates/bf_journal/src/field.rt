@@ -5,7 +5,7 @@ ghost use Rattle.bf_value.specs.declared.xval.Xval.TheVariants.{Int, Text};
 ghost use Rattle.bf_value.specs.Views.{list_of};
 ghost use Rattle.bf_xcom.specs.Pulls.{pushed_by};
 ghost use Rattle.bf_journal.specs.Records.{optional_value_of, outcome_word};
-ghost use Rattle.bf_journal.specs.Tells.{IsFound};
+ghost use Rattle.bf_journal.specs.inner.Tells.{IsFound};
 
 use bf_value::{OutOfMemory, Xval};
 use bf_xcom::{Outcome, Pulled};

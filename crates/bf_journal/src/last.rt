@@ -3,7 +3,8 @@ ghost use Rattle.std.specs.Prelude.{◌≡◌, ◌<◌, length, IfOk, OnOk};
 ghost use Rattle.std.specs.Option.{option_or};
 ghost use Rattle.std.specs.FinMap;
 ghost use Rattle.bf_value.specs.declared.name.JobName.{JobName};
-ghost use Rattle.bf_journal.specs.Found.{AreOfTasks, entry_for, entry_named, last_for};
+ghost use Rattle.bf_journal.specs.Found.{entry_for, entry_named, last_for};
+ghost use Rattle.bf_journal.specs.inner.Found.{AreOfTasks};
 
 use bf_plan::Plan;
 use bf_try::{Entry, Ledger, NoteFault, fits};

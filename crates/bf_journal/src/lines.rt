@@ -1,6 +1,7 @@
 //! Lines of a text that may be cut short anywhere.
 ghost use Rattle.std.specs.Prelude.{◌≡◌, ◌++◌, ◌∷◌, [], IfSome, IfNone};
-ghost use Rattle.bf_journal.specs.Lines.{IsInLine, whole_lines};
+ghost use Rattle.bf_journal.specs.Lines.{whole_lines};
+ghost use Rattle.bf_journal.specs.inner.Lines.{IsInLine};
 
 use memchr::memchr;
 

@@ -1,7 +1,7 @@
 //! Runs, found by the text of their start.
 ghost use Rattle.std.specs.Prelude.{◌≡◌, ◌↔◌, IsTrue, IfSome, option_copied, slice_get};
 ghost use Rattle.bf_interval.specs.Intervals.{IsShownInterval};
-ghost use Rattle.bf_journal.specs.Tells.{IsFound, StartsAt, StartsOn};
+ghost use Rattle.bf_journal.specs.inner.Tells.{IsFound, StartsAt, StartsOn};
 
 use bf_interval::{Interval, Runs};
 use bf_moment::{moment_bytes, moment_in};

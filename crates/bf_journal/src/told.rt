@@ -1,6 +1,7 @@
 //! The tries that the lines of a journal tell.
 ghost use Rattle.std.specs.Prelude.{IfOk, IfErr};
-ghost use Rattle.bf_journal.specs.Found.{AreRead, IsFaultBehind};
+ghost use Rattle.bf_journal.specs.Found.{AreRead};
+ghost use Rattle.bf_journal.specs.inner.Found.{IsFaultBehind};
 
 use crate::fault::JournalFault;
 use crate::lines::first_line;

@@ -1,7 +1,8 @@
 //! Tries, read from the lines of a journal.
 ghost use Rattle.std.specs.Prelude.{IfOk};
 ghost use Rattle.bf_value.specs.Views.{list_of};
-ghost use Rattle.bf_journal.specs.Tells.{IsFound, Tells, TellsEntry, TellsLine, TellsName, TellsOutcome, TellsText};
+ghost use Rattle.bf_journal.specs.Tells.{Tells, TellsLine, TellsText};
+ghost use Rattle.bf_journal.specs.inner.Tells.{IsFound, TellsEntry, TellsName, TellsOutcome};
 
 use crate::bare::bare_try_in;
 use crate::field::{

@@ -1,7 +1,7 @@
 pub mod Relay
 pub mod Lanes
 pub mod Service
-pub mod Drained
 pub mod Open
 pub mod Rounds
 pub mod Closing
+pub mod inner

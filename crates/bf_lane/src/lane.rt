@@ -5,7 +5,7 @@ ghost use Rattle.bf_lane.specs.Relay.{log};
 ghost use Rattle.bf_lane.specs.Lanes.{IsClosed, IsAllowedBy};
 ghost use Rattle.bf_lane.specs.Open.{IsFresh, scheduled, awaits, Fulfils, StartsWith};
 ghost use Rattle.bf_lane.specs.declared.messages.Job.TheVariants;
-ghost use Rattle.bf_lane.specs.Drained.{IsDrained};
+ghost use Rattle.bf_lane.specs.inner.Drained.{IsDrained};
 
 use crate::closed::Closed;
 use crate::messages::{Answer, Job};

@@ -6,7 +6,7 @@ use Rattle.bf_plan.specs.declared.plan.Dag.{Dag}
 use Rattle.bf_plan.specs.Plans.{task_of}
 use Rattle.bf_plan.specs.Sound.{IsOneOf}
 use Rattle.bf_marks.specs.RowOrder.{stands, is_let_go_in, has_no_upstreams_in, order_from, order_of, tasks_where}
-use Rattle.bf_marks.specs.Behind.{IsReady, AreBehind}
+use Rattle.bf_marks.specs.inner.Behind.{IsReady, AreBehind}
 
 -- ---- what stands
 

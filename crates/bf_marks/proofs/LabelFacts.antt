@@ -8,7 +8,8 @@ use Rattle.bf_moment.specs.declared.moment.Moment.{Moment}
 use Rattle.bf_value.proofs.ReadLemmas.{drop_item}
 use Rattle.bf_moment.specs.Moment.{moment_text}
 use Rattle.bf_marks.specs.declared.label.Scale.{Scale}
-use Rattle.bf_marks.specs.Labels.{are_apart_in, is_behind, counted, counted_on, fitted_of, group_label, group_of, groups_of, groups_text, left, same_first}
+use Rattle.bf_marks.specs.Labels.{are_apart_in, is_behind, counted, counted_on, fitted_of, group_label, group_of, groups_of, groups_text, left}
+use Rattle.bf_marks.specs.inner.Labels.{same_first}
 
 abbrev pub moments : List Moment → List ℤ
 moments starts = map (λ start. start.at.nanosecond) starts

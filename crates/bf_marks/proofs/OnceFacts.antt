@@ -6,7 +6,7 @@ use Rattle.std.proofs.lemmas.List.{length-replicate}
 use Rattle.bf_plan.specs.declared.plan.Dag.{Dag}
 use Rattle.bf_plan.specs.Plans.{task_of}
 use Rattle.bf_marks.specs.RowOrder.{stands, is_let_go_in, has_no_upstreams_in, order_from, order_of, tasks_where}
-use Rattle.bf_marks.specs.Behind.{IsReady}
+use Rattle.bf_marks.specs.inner.Behind.{IsReady}
 use Rattle.bf_marks.proofs.BehindFacts.{stands_now, stands_on, all_stand_on, nothing_stands, no_upstreams}
 
 -- ---- lists

@@ -6,7 +6,7 @@ use Rattle.std.proofs.lemmas.List.Elements.{filter-append}
 use Rattle.bf_plan.specs.declared.plan.Dag.{Dag}
 use Rattle.bf_marks.specs.declared.row_order.Walk.{Walk}
 use Rattle.bf_marks.specs.RowOrder.{is_let_go_in, order_from, tasks_where}
-use Rattle.bf_marks.specs.Walk.{GoesOnBy}
+use Rattle.bf_marks.specs.inner.Walk.{GoesOnBy}
 
 pub range_more : (a n : ℕ) → range_with_len a (n + 1) ≡ range_with_len a n ++ (a + n) ∷ []
 range_more a zero = let same : a ≡ a + 0 = omega arith in ap (λ k. k ∷ []) same

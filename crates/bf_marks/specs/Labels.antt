@@ -97,8 +97,3 @@ groups_of scale starts = map (λ start. group_of scale (moment_text start)) star
 -- a digit of each column
 abbrev pub digits_at : ℕ → List ℤ → List ℕ
 digits_at place starts = map (λ start. slice_index_or (moment_text start) place 32) starts
-
--- how many at the front are this one
-abbrev pub same_first : List ℕ → List (List ℕ) → ℕ
-same_first group [] = 0
-same_first group (first ∷ rest) = if bytes_eq first group then same_first group rest + 1 else 0

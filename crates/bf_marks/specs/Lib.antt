@@ -2,8 +2,7 @@ pub mod Phrases
 pub mod Tallies
 pub mod CellMarks
 pub mod RowOrder
-pub mod Walk
-pub mod Behind
 pub mod Labels
 pub mod Widths
 pub mod GridViews
+pub mod inner

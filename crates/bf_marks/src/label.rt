@@ -1,6 +1,7 @@
 //! What columns are labelled by.
 ghost use Rattle.std.specs.Prelude.{◌≡◌, ◌≤◌, ◌<◌, ◌+◌, ◌==◌, ◌++◌, max, length, map, replicate, if◌then◌else◌, OnOk};
-ghost use Rattle.bf_marks.specs.Labels.{same_first, are_apart_in, seconds_of, is_behind, scale_of, group_size_of, unit_place_of, fitted_of, digits_at, group_label, groups_of, groups_text, counted, left, right};
+ghost use Rattle.bf_marks.specs.Labels.{are_apart_in, seconds_of, is_behind, scale_of, group_size_of, unit_place_of, fitted_of, digits_at, group_label, groups_of, groups_text, counted, left, right};
+ghost use Rattle.bf_marks.specs.inner.Labels.{same_first};
 
 use crate::phrases::push;
 use bf_moment::{Moment, moment_bytes};

@@ -4,7 +4,7 @@ ghost use Rattle.std.specs.List.{list_any, list_all};
 ghost use Rattle.bf_plan.specs.Plans.{task_of};
 ghost use Rattle.bf_plan.specs.Sound.{IsSound};
 ghost use Rattle.bf_marks.specs.RowOrder.{is_let_go_in, has_no_upstreams_in, order_of, stands, tasks_where};
-ghost use Rattle.bf_marks.specs.Walk.{GoesOnBy};
+ghost use Rattle.bf_marks.specs.inner.Walk.{GoesOnBy};
 
 use bf_plan::Dag;
 use bf_value::OutOfMemory;

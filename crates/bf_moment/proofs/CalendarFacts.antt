@@ -9,7 +9,7 @@ use Rattle.jiff_core.proofs.SignedLemmas.{signed_arith}
 use Rattle.jiff_core.proofs.CalendarLemmas.{days_from_civil-day_count, day_count-lt_year, day_count-lt_month, day_count-day, day_count-day_of_year, days_in_month_bounds}
 use Rattle.jiff_core.proofs.DateLemmas.{civil}
 use Rattle.bf_moment.specs.Calendar.{last_up_to, has_come, year_on, month_on, day_on}
-use Rattle.bf_moment.specs.Clock.{IsShownDate}
+use Rattle.bf_moment.specs.inner.Clock.{IsShownDate}
 
 -- the last that passes is the one that passes with none above it
 pub last_up_to_is : (p : ℕ → Bool) (n k : ℕ) → k ≤ n → p k ≡ true → ((j : ℕ) → k < j → j ≤ n → p j ≡ false) → last_up_to p n ≡ k

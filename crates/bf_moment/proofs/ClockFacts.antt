@@ -17,7 +17,7 @@ use Rattle.jiff_core.proofs.DateLemmas.{days_from_civil-day, days_from_civil-nex
 use Rattle.jiff_core.proofs.DateTimeLemmas.{civil_nanos-parts, civil_nanos_range}
 use Rattle.bf_moment.specs.Calendar.{last_up_to, has_come, year_on, month_on, day_on}
 use Rattle.bf_moment.specs.Moment.{IsShown, Spells, nearest, day_of}
-use Rattle.bf_moment.specs.Clock.{IsShownDate, SpellsClock}
+use Rattle.bf_moment.specs.inner.Clock.{IsShownDate, SpellsClock}
 use Rattle.bf_moment.proofs.CalendarFacts.{come}
 use Rattle.bf_moment.proofs.MomentFacts.{day_count_zero, shown_date, second_of_clock, date_text_of_clock, moment_text_of_clock}
 

@@ -9,7 +9,7 @@ use Rattle.jiff_core.specs.declared.civil.time.Time.{Time}
 use Rattle.jiff_core.specs.declared.civil.datetime.DateTime.{DateTime}
 use Rattle.jiff_core.proofs.SignedLemmas.{signed_arith}
 use Rattle.bf_moment.specs.Moment.{date_parts_text, time_parts_text}
-use Rattle.bf_moment.specs.Clock.{IsShownDate, SpellsClock, clock_text}
+use Rattle.bf_moment.specs.inner.Clock.{IsShownDate, SpellsClock, clock_text}
 use Rattle.bf_moment.specs.Long.{two_from, four_from, is_date, is_time, is_long_of, is_long}
 use Rattle.bf_moment.proofs.CalendarFacts.{abs_is}
 

@@ -3,7 +3,7 @@ use Rattle.std.proofs.Common.{◌≡◌, ℕ, ℤ, List, length, true, refl, sym
 use Rattle.jiff_core.specs.declared.civil.datetime.DateTime.{DateTime}
 use Rattle.jiff.specs.Words.{civil_nanos}
 use Rattle.bf_moment.specs.Moment.{IsShown, IsWhole, Spells, moment_text}
-use Rattle.bf_moment.specs.Clock.{SpellsClock}
+use Rattle.bf_moment.specs.inner.Clock.{SpellsClock}
 use Rattle.bf_moment.specs.Long.{is_long, IsTextOfMoment}
 use Rattle.bf_moment.proofs.MomentFacts.{shown_date, moment_text_of_clock}
 use Rattle.bf_moment.proofs.ClockFacts.{clock_of, spells_moment}

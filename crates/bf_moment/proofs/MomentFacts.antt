@@ -13,7 +13,7 @@ use Rattle.jiff_core.proofs.DateLemmas.{civil}
 use Rattle.jiff_core.proofs.DateTimeLemmas.{civil_nanos-parts, epoch_day-civil_nanos, time_nanos_bound}
 use Rattle.bf_moment.specs.Calendar.{year_on, month_on, day_on}
 use Rattle.bf_moment.specs.Moment.{day_of, second_of, date_text, time_text, moment_text, date_parts_text, IsShown}
-use Rattle.bf_moment.specs.Clock.{IsShownDate, clock_text, clock_date_text, clock_time_text}
+use Rattle.bf_moment.specs.inner.Clock.{IsShownDate, clock_text, clock_date_text, clock_time_text}
 use Rattle.bf_moment.proofs.CalendarFacts.{date_on}
 
 pub day_count_zero : day_count (pos 0) 1 1 ≡ 3_652_425

@@ -11,7 +11,7 @@ use Rattle.jiff_core.proofs.SignedLemmas.{signed_arith}
 use Rattle.jiff_core.proofs.CalendarLemmas.{days_in_month_bounds}
 use Rattle.jiff_core.proofs.DateTimeLemmas.{civil_nanos-parts}
 use Rattle.bf_moment.specs.Moment.{IsShown, IsWhole, moment_text}
-use Rattle.bf_moment.specs.Clock.{IsShownDate, clock_text}
+use Rattle.bf_moment.specs.inner.Clock.{IsShownDate, clock_text}
 use Rattle.bf_moment.proofs.CalendarFacts.{abs_is}
 use Rattle.bf_moment.proofs.ClockFacts.{clock_of}
 use Rattle.bf_moment.proofs.MomentFacts.{shown_date, moment_text_of_clock}

@@ -7,7 +7,7 @@ use Rattle.std.proofs.Math.ListN.{drop_of_length-le}
 use Rattle.std.proofs.Common.{subst, inl}
 use Rattle.jiff.specs.Types.{Date, Time, DateTime}
 use Rattle.bf_moment.specs.Moment.{two, four}
-use Rattle.bf_moment.specs.Clock.{clock_date_text, clock_time_text, IsShownDate, SpellsClock}
+use Rattle.bf_moment.specs.inner.Clock.{clock_date_text, clock_time_text, IsShownDate, SpellsClock}
 
 both : (a b c d : ℕ) → a ≡ c → b ≡ d → a ∷ b ∷ [] ≡ c ∷ d ∷ []
 both a b c d e h = cc

@@ -1,4 +1,4 @@
 pub mod Calendar
 pub mod Moment
-pub mod Clock
 pub mod Long
+pub mod inner

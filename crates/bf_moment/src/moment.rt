@@ -2,7 +2,7 @@
 ghost use Rattle.std.specs.Prelude.{◌≡◌, ◌<◌, ◌+◌};
 ghost use Rattle.std.specs.Str.{IsAscii};
 ghost use Rattle.bf_moment.specs.Moment.{IsShown, moment_text};
-ghost use Rattle.bf_moment.specs.Clock.{IsShownDate, clock_text, fields};
+ghost use Rattle.bf_moment.specs.inner.Clock.{IsShownDate, clock_text, fields};
 
 use jiff::Timestamp;
 use jiff::civil::DateTime;

@@ -4,7 +4,7 @@ ghost use Rattle.jiff.specs.Types.{Date, Time, DateTime};
 ghost use Rattle.jiff.specs.Words.{civil_nanos};
 ghost use Rattle.bf_moment.specs.Moment.{two, four, Spells, nearest};
 ghost use Rattle.bf_moment.specs.Long.{is_long};
-ghost use Rattle.bf_moment.specs.Clock.{IsShownDate, SpellsClock, clock_date_text, clock_time_text};
+ghost use Rattle.bf_moment.specs.inner.Clock.{IsShownDate, SpellsClock, clock_date_text, clock_time_text};
 
 use jiff::Timestamp;
 use jiff::civil::{Date, DateTime, Time};

@@ -3,7 +3,7 @@ use Rattle.std.proofs.Common.{◌≡◌, ◌≤◌, ◌<◌, ◌+◌, ◌*◌, �
 use Rattle.std.specs.List.{concat, list_any}
 use Rattle.std.proofs.lemmas.Bool.Decides.{nat_tests}
 use Rattle.std.proofs.lemmas.List.{length-append}
-use Rattle.bf_page.specs.Counted.{is_long}
+use Rattle.bf_page.specs.inner.Counted.{is_long}
 use Rattle.bf_page.specs.Safe.{safe, safe_byte}
 use Rattle.bf_page.proofs.SafeFacts.{by_byte}
 

@@ -1,4 +1,3 @@
 pub mod Safe
-pub mod Pieces
 pub mod Page
-pub mod Counted
+pub mod inner

@@ -1,7 +1,7 @@
 //! Whether the bytes of a page can be counted.
 ghost use Rattle.std.specs.Prelude.{◌≡◌, ◌<◌, ◌^◌, length, true};
 ghost use Rattle.std.specs.List.{list_any};
-ghost use Rattle.bf_page.specs.Counted.{is_long};
+ghost use Rattle.bf_page.specs.inner.Counted.{is_long};
 ghost use Rattle.bf_page.specs.Page.{page_text};
 
 use crate::page::PageTexts;

@@ -3,7 +3,7 @@ ghost use Rattle.std.specs.Prelude.{◌≡◌, ◌<◌, ◌≤◌, [], length, O
 ghost use Rattle.std.specs.List.{flat_map};
 ghost use Rattle.bf_device.specs.Device.{sent, HasHalted, HasGoneOn};
 ghost use Rattle.bf_page.specs.Page.{EndsAt};
-ghost use Rattle.bf_page.specs.Pieces.{piece_text, behind, steps_behind, left};
+ghost use Rattle.bf_page.specs.inner.Pieces.{piece_text, behind, steps_behind, left};
 
 use crate::safe::split_safe_front;
 use bf_device::{Cause, Halt, MOST_INTERRUPTIONS, Write, WriteFault};

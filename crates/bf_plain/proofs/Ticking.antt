@@ -8,7 +8,8 @@ use Rattle.bf_core.specs.Clocks.{IsMove}
 use Rattle.bf_core.specs.Cores.{Backfill, IsReplay, moved, opening}
 use Rattle.bf_sched.specs.Choices.{IsFirstMoment, IsStep}
 use Rattle.bf_sched.specs.Scheduling.{HasBegun, HasFinished, HasStepped, HasTicked, Schedule, WaitsUntil, end_of, moved_on}
-use Rattle.bf_plain.specs.Ticks.{HasTickedSo, TicksSo, TicksToFirstMoments, led_to}
+use Rattle.bf_plain.specs.Ticks.{TicksToFirstMoments, led_to}
+use Rattle.bf_plain.specs.inner.Ticks.{HasTickedSo, TicksSo}
 
 -- ---- lists
 

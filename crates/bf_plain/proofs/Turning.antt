@@ -16,7 +16,7 @@ use Rattle.bf_sched.specs.Choices.{IsFirstMoment}
 use Rattle.bf_sched.specs.Driving.{IsUnderWay}
 use Rattle.bf_sched.specs.Scheduling.{HasBegun, HasFinished, HasStepped, HasTicked, MayFinish, Schedule, WaitsUntil}
 use Rattle.bf_sched.proofs.Keeping.{begin_running, end_running, step_running, tick_running}
-use Rattle.bf_plain.specs.Driving.{IsIdle}
+use Rattle.bf_plain.specs.inner.Driving.{IsIdle}
 
 -- ---- tries
 

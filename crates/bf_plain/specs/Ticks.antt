@@ -6,7 +6,6 @@ use Rattle.bf_core.specs.Clocks.{clock_of, start_clock}
 use Rattle.bf_core.specs.Cores.{Backfill}
 use Rattle.bf_core.specs.Events.{replay, start}
 use Rattle.bf_sched.specs.Choices.{IsFirstMoment}
-use Rattle.bf_sched.specs.Scheduling.{Schedule}
 
 -- the backfill that these events lead to
 abbrev pub led_to : Dag → Limits → ℕ → List Event → Backfill
@@ -25,13 +24,3 @@ pub record TicksToFirstMoments (dag : Dag) (limits : Limits) (runs : ℕ)
     (journal : List Event) : Type 0 where
   pub first : (before rest : List Event) (moment : ℤ) → journal ≡ before ++ Event.Tick moment ∷ rest
       → IsFirstMoment (led_to dag limits runs before) moment
-
--- ---- for private clauses
-
-abbrev pub HasTickedSo : Backfill → Type 0
-HasTickedSo backfill =
-    TicksToFirstMoments backfill.dag backfill.limits backfill.runs backfill.journal
-
--- where it ticked so before, it has ticked so
-pub record TicksSo (old new : Schedule) : Type 0 where
-  pub so : HasTickedSo old.backfill → HasTickedSo new.backfill

@@ -1,13 +1,14 @@
 //! A backfill, driven to its end.
 ghost use Rattle.std.specs.Prelude.{◌≡◌, ◌+◌, true, false, OnOk, IfOk, IfErr};
 ghost use Rattle.bf_core.specs.Answered.{AreGraded, MayFault};
-ghost use Rattle.bf_core.specs.Driven.{IsOver};
+ghost use Rattle.bf_core.specs.inner.Driven.{IsOver};
 ghost use Rattle.bf_core.specs.Endings.{IsEndOf, KeepsWorkers};
 ghost use Rattle.bf_core.specs.Events.{HasEnded, entry_in};
 ghost use Rattle.bf_core.specs.Running.{running_now};
 ghost use Rattle.bf_sched.specs.Driving.{IsUnderWay, StaysDriven};
-ghost use Rattle.bf_plain.specs.Driving.{IsIdle, IsLonger, fault_by};
-ghost use Rattle.bf_plain.specs.Ticks.{TicksSo, TicksToFirstMoments};
+ghost use Rattle.bf_plain.specs.inner.Driving.{IsIdle, IsLonger, fault_by};
+ghost use Rattle.bf_plain.specs.Ticks.{TicksToFirstMoments};
+ghost use Rattle.bf_plain.specs.inner.Ticks.{TicksSo};
 
 use bf_core::{BackfillFault, Core, Ended};
 use bf_plan::Plan;

@@ -13,7 +13,8 @@ use Rattle.bf_planning.specs.declared.range.Starts.TheVariants.{Between, On}
 use Rattle.bf_command_fault.specs.declared.range.RangeFault.{RangeFault}
 use Rattle.bf_command_fault.specs.declared.range.RangeFault.TheVariants.{NoRuns}
 use Rattle.bf_planning.specs.Graphs.{IsTimed}
-use Rattle.bf_planning.specs.Lists.{HasListing, IsListIn, IsSince1970, intervals_text}
+use Rattle.bf_planning.specs.Lists.{HasListing, IsListIn, intervals_text}
+use Rattle.bf_planning.specs.inner.Lists.{IsSince1970}
 use Rattle.bf_planning.specs.Clocks.{AreClocksOf}
 use Rattle.bf_planning.specs.Ranges.{IsRangeAnswer, IsStartsAnswer}
 

@@ -4,3 +4,4 @@ pub mod Lists
 pub mod Clocks
 pub mod Tables
 pub mod Wanting
+pub mod inner

@@ -1,5 +1,5 @@
 -- What the command `list` prints: the data intervals of a graph's schedule that start in a range.
-use Rattle.std.specs.Prelude.{◌≡◌, ◌⊎◌, ℕ, pos, ◌≤ℤ◌, List, [], ◌∷◌, ◌++◌, Option, Result, Ok, Err}
+use Rattle.std.specs.Prelude.{◌≡◌, ◌⊎◌, ℕ, List, [], ◌∷◌, ◌++◌, Option, Result, Ok, Err}
 use Rattle.std.specs.List.{flat_map}
 use Rattle.jiff.specs.Types.{TimeZone}
 use Rattle.bf_cron.specs.declared.spec.CronSpec.{CronSpec}
@@ -46,8 +46,6 @@ ListFault graph file range (Range fault) = HasListing graph file range (Err faul
 ListFault graph file range (CannotWrite n) = Unit {0}
 ListFault graph file range fault = IsFaultIn graph file fault
 
--- ---- for private clauses
-
 -- the fault is the one that the range has; or memory is wanting
 abbrev pub IsRangeFault : List ℕ → Option (List ℕ) → RunRange → CommandFault → Type 0
 IsRangeFault graph file range (Range fault) = HasListing graph file range (Err fault)
@@ -58,7 +56,3 @@ IsRangeFault graph file range _ = ⊥
 abbrev pub IsDatedFault : List ℕ → Option (List ℕ) → RunRange → CommandFault → Type 0
 IsDatedFault graph file range fault =
     IsFaultIn graph file fault ⊎ IsRangeFault graph file range fault
-
--- neither its start nor its end lies before 1970
-abbrev pub IsSince1970 : Interval → Type 0
-IsSince1970 i = (pos 0 ≤ℤ i.start.nanosecond) × (pos 0 ≤ℤ i.end.nanosecond)

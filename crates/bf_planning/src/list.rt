@@ -2,7 +2,8 @@
 ghost use Rattle.std.specs.Prelude.{◌≡◌, ◌++◌, IfOk, IfErr, OnOk, All, option_map, string_bytes};
 ghost use Rattle.bf_device.specs.Device.{HasHalted};
 ghost use Rattle.bf_command_fault.specs.Refusal.{Leaves, Sends};
-ghost use Rattle.bf_planning.specs.Lists.{ListFault, IsListIn, IsSince1970, interval_line, intervals_text};
+ghost use Rattle.bf_planning.specs.Lists.{ListFault, IsListIn, interval_line, intervals_text};
+ghost use Rattle.bf_planning.specs.inner.Lists.{IsSince1970};
 
 use crate::plan::dated_plan_in;
 use crate::range::RunRange;

@@ -7,7 +7,8 @@ use Rattle.std.proofs.lemmas.List.Sums.{fold-append}
 use Rattle.bf_words.specs.declared.context.JobContext.{JobContext}
 use Rattle.bf_process.specs.declared.variable.Variable.{Variable}
 use Rattle.bf_process.specs.declared.variable.Variable.TheVariants.{DagId}
-use Rattle.bf_process.specs.Environment.{environment_of, given_pairs, pairs_of, said_after, variable_name, variable_value, variables_of}
+use Rattle.bf_process.specs.Environment.{environment_of, given_pairs, pairs_of, variable_name, variable_value, variables_of}
+use Rattle.bf_process.specs.inner.Environment.{said_after}
 
 abbrev Said : Type 0
 Said = Option (Option (List ℕ))

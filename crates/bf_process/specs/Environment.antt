@@ -1,7 +1,6 @@
 -- What is added to the environment of a try's program.
-use Rattle.std.specs.Prelude.{ℕ, ℤ, List, [], ◌∷◌, ◌++◌, map, fold, codes, decimal, if◌then◌else◌, Option, None, Some}
+use Rattle.std.specs.Prelude.{ℕ, ℤ, List, [], ◌∷◌, ◌++◌, map, codes, decimal, Option, None, Some}
 use Rattle.std.specs.Fmt.{signed_decimal}
-use Rattle.std.specs.Str.{bytes_eq}
 use Rattle.bf_moment.specs.Moment.{date_text, moment_text}
 use Rattle.bf_words.specs.declared.context.JobContext.{JobContext}
 use Rattle.bf_process.specs.Clocks.{date_digits}
@@ -56,9 +55,3 @@ given_pairs (Some path) = (codes "BACKFILL_GIVEN", path) ∷ []
 -- the variables that are added for a try, by what the clocks of the graph's zone show at its run's moment
 unfoldable pub environment_of : JobContext → ℤ → Option (List ℕ) → List (List ℕ × List ℕ)
 environment_of try clock given = pairs_of try clock variables_of ++ given_pairs given
-
--- what is said of a name by pairs that are set in order, where this was said before
-unfoldable pub said_after : List ℕ → Option (Option (List ℕ)) → List (List ℕ × List ℕ)
-    → Option (Option (List ℕ))
-said_after name before pairs =
-    fold (λ said pair. if bytes_eq pair.0 name then Some (Some pair.1) else said) before pairs

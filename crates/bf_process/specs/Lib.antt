@@ -1,5 +1,5 @@
 pub mod Output
 pub mod Clocks
 pub mod Environment
-pub mod Commands
 pub mod Words
+pub mod inner

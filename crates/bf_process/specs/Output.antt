@@ -1,5 +1,5 @@
 -- What is heard of a program.
-use Rattle.std.specs.Prelude.{◌≡◌, ◌≤◌, ◌<◌, ℕ, ℤ, List, [], length, Option, None, Some}
+use Rattle.std.specs.Prelude.{◌≡◌, ◌≤◌, ◌<◌, ℕ, List, [], length}
 use Rattle.bf_value.specs.Line.{last_line_of}
 use Rattle.bf_try.specs.declared.answers.Exit.{Exit}
 use Rattle.bf_try.specs.declared.answers.Line.{Line}
@@ -10,11 +10,6 @@ abbrev pub IsLineOf : List ℕ → Line → Type 0
 IsLineOf output (Line.Bytes line) = (line ≡ last_line_of output) × (length output ≤ 1_048_576)
 IsLineOf output Line.TooMuch = 1_048_576 < length output
 IsLineOf output Line.ReadFault = Unit {0}
-
--- how a program ended: by a code, or else by a signal
-abbrev pub exit_in : Option ℤ → Exit
-exit_in (Some code) = Exit.Code code
-exit_in None = Exit.Signal
 
 -- nothing was started, and nothing printed
 abbrev pub not_started_raw_of : Raw

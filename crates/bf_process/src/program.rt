@@ -4,10 +4,12 @@ ghost use Rattle.std.specs.Process.{child_status, clears_env, command_program, c
 ghost use Rattle.bf_graph.specs.Shape.{texts};
 ghost use Rattle.bf_try.specs.declared.answers.Line.{Line};
 ghost use Rattle.bf_failure.specs.declared.detail.Detail.{Detail};
-ghost use Rattle.bf_process.specs.Environment.{pairs_of, said_after, variables_of};
-ghost use Rattle.bf_process.specs.Commands.{IsSaidAfter, IsSameElse};
+ghost use Rattle.bf_process.specs.Environment.{pairs_of, variables_of};
+ghost use Rattle.bf_process.specs.inner.Environment.{said_after};
+ghost use Rattle.bf_process.specs.inner.Commands.{IsSaidAfter, IsSameElse};
 ghost use Rattle.bf_process.specs.Words.{variables_in};
-ghost use Rattle.bf_process.specs.Output.{IsLineOf, exit_in, not_started_raw_of};
+ghost use Rattle.bf_process.specs.Output.{IsLineOf, not_started_raw_of};
+ghost use Rattle.bf_process.specs.inner.Output.{exit_in};
 
 use crate::heard::Heard;
 use crate::line::line_of;

@@ -14,7 +14,7 @@ use Rattle.bf_commands.specs.Programs.{Losing}
 use Rattle.bf_disk.specs.Files.{Files}
 use Rattle.bf_backfills.specs.Commands.{Machine}
 use Rattle.bf_program.specs.CommandFaults.{IsFault, IsFaultBy}
-use Rattle.bf_program.specs.Filed.{filed_fault, replacing_fault}
+use Rattle.bf_program.specs.inner.Filed.{filed_fault, replacing_fault}
 
 -- ---- the file
 

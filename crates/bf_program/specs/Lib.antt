@@ -3,4 +3,4 @@ pub mod Texts
 pub mod Commands
 pub mod CommandFaults
 pub mod Explained
-pub mod Filed
+pub mod inner

@@ -4,7 +4,7 @@ ghost use Rattle.bf_file.specs.Replacing.{HasReplaced};
 ghost use Rattle.bf_backfills.specs.Commands.{machine_of};
 ghost use Rattle.bf_program.specs.Commands.{IsAnswer};
 ghost use Rattle.bf_program.specs.CommandFaults.{IsFaultBy};
-ghost use Rattle.bf_program.specs.Filed.{filed_fault, replacing_fault};
+ghost use Rattle.bf_program.specs.inner.Filed.{filed_fault, replacing_fault};
 
 use crate::program::answer_command;
 use bf_command_fault::{CommandFault, Status};

@@ -1,6 +1,6 @@
 //! The tries that run.
 ghost use Rattle.std.specs.Prelude.{◌≡◌, ◌++◌, ◌∷◌, [], OnErr, OnOk, filter};
-ghost use Rattle.bf_progress.specs.Due.{is_other};
+ghost use Rattle.bf_progress.specs.inner.Due.{is_other};
 
 use bf_value::{JobName, OutOfMemory};
 use std::time::Duration;

@@ -1,6 +1,6 @@
 //! What is known of a backfill while it runs.
 ghost use Rattle.std.specs.Prelude.{◌≡◌, [], OnErr, OnOk, false};
-ghost use Rattle.bf_progress.specs.Due.{IsNoted, IsRunningAfter, due_of, is_line_due_in, is_minute_over_in, running_after, shown_of};
+ghost use Rattle.bf_progress.specs.inner.Due.{IsNoted, IsRunningAfter, due_of, is_line_due_in, is_minute_over_in, running_after, shown_of};
 
 use crate::begun::{Begun, push_begun, remove_ended};
 use crate::counts::Counts;

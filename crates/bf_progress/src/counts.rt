@@ -1,6 +1,6 @@
 //! How far a backfill is.
 ghost use Rattle.std.specs.Prelude.{◌≡◌, IfOk, string_bytes};
-ghost use Rattle.bf_progress.specs.Lines.{counts_line, kept_line};
+ghost use Rattle.bf_progress.specs.inner.Lines.{counts_line, kept_line};
 
 use bf_core::{Cell, Core, Event, Phase};
 use bf_try::Outcome;

@@ -1,6 +1,6 @@
 //! What is to be told at a moment.
 ghost use Rattle.std.specs.Prelude.{◌≡◌};
-ghost use Rattle.bf_progress.specs.Due.{seconds_between_of};
+ghost use Rattle.bf_progress.specs.inner.Due.{seconds_between_of};
 
 use crate::begun::Begun;
 use std::time::Duration;

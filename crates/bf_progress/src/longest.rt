@@ -1,6 +1,6 @@
 //! The line of the try that runs longest.
 ghost use Rattle.std.specs.Prelude.{◌≡◌, IfOk, string_bytes};
-ghost use Rattle.bf_progress.specs.Lines.{longest_line_of};
+ghost use Rattle.bf_progress.specs.inner.Lines.{longest_line_of};
 
 use bf_failure::try_text;
 use bf_value::OutOfMemory;

@@ -1,6 +1,6 @@
 //! Where progress is shown.
 ghost use Rattle.std.specs.Prelude.{◌≡◌, IfOk, string_bytes};
-ghost use Rattle.bf_progress.specs.Lines.{line_at};
+ghost use Rattle.bf_progress.specs.inner.Lines.{line_at};
 
 use bf_device::{Output, send};
 use bf_value::OutOfMemory;

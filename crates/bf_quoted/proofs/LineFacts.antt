@@ -8,7 +8,8 @@ use Rattle.std.proofs.lemmas.List.Elements.{All-head, All-tail}
 use Rattle.std.proofs.lemmas.List.Sums.{fold-append}
 use Rattle.bf_quoted.specs.Words.{quoted}
 use Rattle.bf_quoted.specs.Shell.{Reading, bare, behind_backslash, behind_dollar, in_quotes, in_dollar_quotes, in_escape, behind_digit, behind_digits, not_read, reads_on, read_by_shell}
-use Rattle.bf_quoted.specs.Lines.{gap, line_of, ReadLine, reads_line_on, words_at_end, words_by_shell}
+use Rattle.bf_quoted.specs.Lines.{line_of, ReadLine, reads_line_on, words_at_end, words_by_shell}
+use Rattle.bf_quoted.specs.inner.Lines.{gap}
 use Rattle.bf_quoted.proofs.ReadFacts.{shell_reads, some_quoted}
 
 -- ---- one word more

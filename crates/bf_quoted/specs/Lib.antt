@@ -3,3 +3,4 @@ pub mod Words
 pub mod Values
 pub mod Shell
 pub mod Lines
+pub mod inner

@@ -8,10 +8,6 @@ use Rattle.bf_quoted.specs.Shell.{Reading, bare, reads_on}
 abbrev pub line_of : List (List ℕ) → List ℕ
 line_of words = join_with_byte 32 (map quoted words)
 
--- what stands before the word in this place
-abbrev pub gap : ℕ → List ℕ
-gap place = if place == 0 then [] else 32 ∷ []
-
 -- the words that a shell has read of a line, and where it is in the next, if that has begun
 pub record ReadLine : Type 0 where
   pub words : List (List ℕ)

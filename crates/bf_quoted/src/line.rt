@@ -1,6 +1,7 @@
 //! Lines of a shell.
 ghost use Rattle.std.specs.Prelude.{◌≡◌, ◌++◌, OnOk, string_bytes};
-ghost use Rattle.bf_quoted.specs.Lines.{gap, line_of};
+ghost use Rattle.bf_quoted.specs.Lines.{line_of};
+ghost use Rattle.bf_quoted.specs.inner.Lines.{gap};
 
 use crate::word::push_quoted;
 use bf_value::{OutOfMemory, Text};

@@ -15,7 +15,8 @@ use Rattle.bf_read.specs.declared.draft.TaskDraft.{TaskDraft}
 use Rattle.bf_read.specs.Limits.{most_tasks, most_edges}
 use Rattle.bf_read.specs.declared.path.Path.{Path}
 use Rattle.bf_read.specs.Gives.{◌>>=◌}
-use Rattle.bf_read.specs.Drafts.{number_of_edges, HaveDistinctIds, IsTask, MayFollow}
+use Rattle.bf_read.specs.Drafts.{number_of_edges, HaveDistinctIds, IsTask}
+use Rattle.bf_read.specs.inner.Drafts.{MayFollow}
 use Rattle.bf_read.specs.Fields.{refuse_beyond_limit_of}
 use Rattle.bf_read.specs.Reading.{task_in, tasks_from}
 use Rattle.bf_read.proofs.FieldLemmas.{rest_from}

@@ -1,6 +1,6 @@
 -- Drafts that a graph file may give: how many of each thing there are, and between which bounds.
-use Rattle.std.specs.Prelude.{◌≡◌, ℕ, ◌+◌, ◌≤◌, not, true, false, List, [], ◌∷◌, length, filter, All, AllPairs, map, sum_by, Option, Some, None}
-use Rattle.std.specs.List.{list_any, filter_map}
+use Rattle.std.specs.Prelude.{◌≡◌, ℕ, ◌≤◌, not, true, List, [], ◌∷◌, length, filter, All, AllPairs, map, sum_by, Option, Some, None}
+use Rattle.std.specs.List.{filter_map}
 use Rattle.std.specs.Cmp.Lexicographic.{slice_cmp}
 use Rattle.std.specs.Ordering.{nat_cmp}
 use Rattle.std.specs.declared.cmp.Ordering.TheVariants.{Less}
@@ -71,9 +71,3 @@ pub record IsDraft (dag_id : List ℕ) (max_active_runs : ℕ) (pools : List Poo
   pub are_pools : All IsPool pools
   pub by_name : StandByName pools
   pub are_tasks : AreTasks tasks
-
--- a task that may follow these: none of them has its id, and its upstreams are not too many
-pub record MayFollow (before : List TaskDraft) (task : TaskDraft) : Type 0 where
-  pub fresh : list_any (λ other. bytes_eq task.id other.id) before ≡ false
-  pub few : number_of_edges before + length task.upstreams ≤ most_edges
-  pub is_task : IsTask task

@@ -1,8 +1,7 @@
 -- What is read of the members of JSON objects.
-use Rattle.std.specs.Prelude.{ℕ, ℤ, pos, negsuc, ◌&&◌, List, [], ◌∷◌, Bool, true, false, nat_le, if◌then◌else◌, Option, Some, None, option_map, option_and_then, Result, Ok, Err}
+use Rattle.std.specs.Prelude.{ℕ, ℤ, pos, negsuc, ◌&&◌, List, [], ◌∷◌, Bool, true, false, nat_le, if◌then◌else◌, Option, Some, None, option_and_then, Result, Ok, Err}
 use Rattle.serde_json.specs.Data.{Data, Items, no_items, item, Members, no_members, member}
 use Rattle.serde_json.specs.Find.{get, as_bool, as_number, as_i64, as_str, as_array, as_object}
-use Rattle.serde_json.specs.View.{view}
 use Rattle.bf_read.specs.declared.path.Path.{Path}
 use Rattle.bf_read.specs.declared.keys.GraphKey.{GraphKey}
 use Rattle.bf_read.specs.declared.keys.TaskKey.{TaskKey}
@@ -14,7 +13,6 @@ use Rattle.bf_plan.specs.Ids.{is_id_in}
 use Rattle.bf_plan.specs.Kinds.{kind_named, weight_rule_named}
 use Rattle.bf_read.specs.declared.fault.ReadFault.{ReadFault}
 use Rattle.bf_read.specs.declared.fault.ReadFault.TheVariants.{Shape, BadName, LimitPassed}
-use Rattle.bf_read.specs.declared.fields.Field.{Field}
 use Rattle.bf_read.specs.declared.fields.ObjectKind.{ObjectKind}
 use Rattle.bf_read.specs.Drafts.{distinct_texts_of}
 use Rattle.bf_read.specs.Gives.{◌>>=◌}
@@ -24,9 +22,6 @@ use Rattle.bf_read.specs.Keys.{graph_key_name, task_key_name, is_graph_key_in, i
 pub record Member : Type 0 where
   pub path : Path
   pub value : Option Data
-
-abbrev pub member_of : Field → Member
-member_of field = record { path = field.path; value = option_map (λ v. view v.now) field.value }
 
 -- the members of the object of the whole file, and of a task's
 abbrev pub graph_member : Data → GraphKey → Member

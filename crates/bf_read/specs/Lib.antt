@@ -7,3 +7,4 @@ pub mod Faults
 pub mod Fields
 pub mod Commands
 pub mod Reading
+pub mod inner

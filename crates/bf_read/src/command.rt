@@ -4,7 +4,7 @@ ghost use Rattle.std.specs.List.{filter_map, list_all};
 ghost use Rattle.serde_json.specs.View.{view, items_view, members_view};
 ghost use Rattle.bf_read.specs.Drafts.{pulled_by, pulled_in};
 ghost use Rattle.bf_read.specs.Gives.{Gives};
-ghost use Rattle.bf_read.specs.Fields.{member_of};
+ghost use Rattle.bf_read.specs.inner.Fields.{member_of};
 ghost use Rattle.bf_read.specs.Commands.{only_entry_in, only_member_in, context_word_of, pull_word_of, item_word_of, keyed_word_of, word_in, words_of, is_short_word_in, command_in};
 ghost use Rattle.bf_read.specs.Limits.{most_words, most_pulls};
 

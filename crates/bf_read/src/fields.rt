@@ -5,7 +5,8 @@ ghost use Rattle.std.specs.List.{list_all};
 ghost use Rattle.serde_json.specs.View.{view, items_view, members_view};
 ghost use Rattle.bf_read.specs.Gives.{Gives};
 ghost use Rattle.bf_plan.specs.Ids.{is_id_in};
-ghost use Rattle.bf_read.specs.Fields.{member_of, field_with_value_in, graph_member, task_member, text_of, text_or_in, expansion_source_in, id_in, id_of_text_in, is_key_in, has_known_keys_in, refuse_other_object_in, items_in, flag_in, whole_number_in, number_within_of, count_in, refuse_beyond_limit_of, members_in};
+ghost use Rattle.bf_read.specs.Fields.{field_with_value_in, graph_member, task_member, text_of, text_or_in, expansion_source_in, id_in, id_of_text_in, is_key_in, has_known_keys_in, refuse_other_object_in, items_in, flag_in, whole_number_in, number_within_of, count_in, refuse_beyond_limit_of, members_in};
+ghost use Rattle.bf_read.specs.inner.Fields.{member_of};
 
 use crate::fault::ReadFault;
 use crate::keys::{GraphKey, TaskKey, is_graph_key, is_task_key};

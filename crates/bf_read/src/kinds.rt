@@ -1,6 +1,7 @@
 //! The kind and the weight rule of a task.
 ghost use Rattle.bf_read.specs.Gives.{Gives};
-ghost use Rattle.bf_read.specs.Fields.{member_of, kind_in, weight_rule_in};
+ghost use Rattle.bf_read.specs.Fields.{kind_in, weight_rule_in};
+ghost use Rattle.bf_read.specs.inner.Fields.{member_of};
 
 use crate::fault::ReadFault;
 use crate::fields::{Field, text_at};

@@ -3,7 +3,8 @@ ghost use Rattle.std.specs.Prelude.{◌≡◌, All, IfOk};
 ghost use Rattle.serde_json.specs.View.{view, members_view};
 ghost use Rattle.bf_read.specs.Drafts.{IsPool, StandByName};
 ghost use Rattle.bf_read.specs.Gives.{Gives};
-ghost use Rattle.bf_read.specs.Fields.{member_of, pool_in, each_member, pools_in};
+ghost use Rattle.bf_read.specs.Fields.{pool_in, each_member, pools_in};
+ghost use Rattle.bf_read.specs.inner.Fields.{member_of};
 
 use crate::draft::PoolDraft;
 use crate::fault::ReadFault;

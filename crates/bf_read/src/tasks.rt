@@ -7,8 +7,10 @@ ghost use Rattle.serde_json.specs.View.{view, items_view};
 ghost use Rattle.bf_value.specs.Distinct.{AreDistinct};
 ghost use Rattle.bf_read.specs.Gives.{Gives};
 ghost use Rattle.bf_plan.specs.Ids.{is_id_in};
-ghost use Rattle.bf_read.specs.Drafts.{number_of_edges, pulled_in, AreTasks, MayFollow};
-ghost use Rattle.bf_read.specs.Fields.{member_of, task_member, refuse_beyond_limit_of};
+ghost use Rattle.bf_read.specs.Drafts.{number_of_edges, pulled_in, AreTasks};
+ghost use Rattle.bf_read.specs.inner.Drafts.{MayFollow};
+ghost use Rattle.bf_read.specs.Fields.{task_member, refuse_beyond_limit_of};
+ghost use Rattle.bf_read.specs.inner.Fields.{member_of};
 ghost use Rattle.bf_read.specs.Reading.{refuse_seen_id_of, task_place_in, task_work_in, task_demand_in, task_in, tasks_from, tasks_in};
 ghost use Rattle.bf_read.specs.Limits.{most_edges, most_tasks, most_words, most_pulls, most_retries, longest_retry_delay, most_slots, greatest_weight};
 

@@ -4,7 +4,8 @@ ghost use Rattle.serde_json.specs.View.{items_view};
 ghost use Rattle.bf_read.specs.Gives.{Gives};
 ghost use Rattle.bf_value.specs.Distinct.{AreDistinct};
 ghost use Rattle.bf_read.specs.Drafts.{distinct_texts_of};
-ghost use Rattle.bf_read.specs.Fields.{member_of, texts_of, upstreams_in};
+ghost use Rattle.bf_read.specs.Fields.{texts_of, upstreams_in};
+ghost use Rattle.bf_read.specs.inner.Fields.{member_of};
 
 use crate::fault::ReadFault;
 use crate::fields::{Field, field_with_value, items_at, text_at};

@@ -10,7 +10,8 @@ use Rattle.bf_plan.specs.Plans.{no_task}
 use Rattle.bf_xcom.specs.Pulls.{pushed_value_of}
 use Rattle.bf_report.specs.declared.report.TaskReport.{TaskReport}
 use Rattle.bf_reason.specs.declared.cause.StateCause.{StateCause}
-use Rattle.bf_reason.specs.Causes.{cause_by_count, cause_of, item_count, past_lets_go_on_of, values_given}
+use Rattle.bf_reason.specs.Causes.{cause_of}
+use Rattle.bf_reason.specs.inner.Causes.{cause_by_count, item_count, past_lets_go_on_of, values_given}
 use Rattle.bf_reason.specs.Reasons.{Reason, waits, not_followed, branch_is_blocked, past_has_not_passed, by_items, by_past, cause_by_verdict_of, reason}
 use Rattle.bf_reason.specs.Settled.{before_among, seen_among, value_among}
 

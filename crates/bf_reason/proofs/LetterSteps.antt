@@ -15,7 +15,8 @@ use Rattle.bf_reason.specs.Reasons.{reason}
 use Rattle.bf_reason.specs.Runs.{tasks_in, tasks_before, tasks_in_run}
 use Rattle.bf_reason.specs.Settled.{before_among, seen_among, value_among}
 use Rattle.bf_reason.specs.declared.cause.StateCause.{StateCause}
-use Rattle.bf_reason.specs.Causes.{cause_of, runs_with_count_in}
+use Rattle.bf_reason.specs.Causes.{cause_of}
+use Rattle.bf_reason.specs.inner.Causes.{runs_with_count_in}
 use Rattle.bf_reason.specs.Letters.{any_letter, ended_letter_of, expanded_digit_of, letter_by_flags_of, before_at, first_letter_of, letter_for, letter_of, uppercase_letter_of}
 
 abbrev some_has : List TaskResult → ℕ → Bool

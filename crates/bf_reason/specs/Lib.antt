@@ -3,3 +3,4 @@ pub mod Settled
 pub mod Causes
 pub mod Letters
 pub mod Runs
+pub mod inner

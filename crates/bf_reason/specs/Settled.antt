@@ -12,10 +12,6 @@ abbrev pub IsFewTask : TaskReport → Type 0
 IsFewTask (TaskReport.Mapped instances) = length instances ≤ most_items
 IsFewTask _ = Unit {0}
 
-abbrev pub IsFewValue : TaskValue → Type 0
-IsFewValue (TaskValue.Ran results) = length results ≤ most_items
-IsFewValue _ = Unit {0}
-
 -- the value of a task, with its instances counted
 pub record IsCounted (told : TaskReport) (value : TaskValue) (counts : Counts) : Type 0 where
   pub has_value : value ≡ value_in told

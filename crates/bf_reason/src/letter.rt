@@ -1,7 +1,7 @@
 //! The letter of a task in a run, which tells its state and why it has that.
 ghost use Rattle.std.specs.Prelude.{◌≡◌, ◌<◌, ◌==◌, Bool, List, length, map};
 ghost use Rattle.std.specs.List.{list_any};
-ghost use Rattle.bf_reason.specs.Causes.{runs_with_count_in};
+ghost use Rattle.bf_reason.specs.inner.Causes.{runs_with_count_in};
 ghost use Rattle.bf_reason.specs.Letters.{ended_letter_of, expanded_digit_of, letter_by_flags_of, first_letter_of, letter_for, letter_of, uppercase_letter_of};
 ghost use Rattle.bf_reason.specs.Runs.{tasks_in, tasks_before};
 ghost use Rattle.bf_report.specs.declared.report.InstanceReport.{InstanceReport};

@@ -2,7 +2,8 @@
 ghost use Rattle.std.specs.Prelude.{◌≡◌, ◌≤◌, All, IfOk, length};
 ghost use Rattle.bf_clear.specs.Entries.{value_in};
 ghost use Rattle.bf_core.specs.Deciding.{counts_in, counts_of_results_of, one_of};
-ghost use Rattle.bf_reason.specs.Settled.{IsFewTask, IsFewValue, results_of};
+ghost use Rattle.bf_reason.specs.Settled.{IsFewTask, results_of};
+ghost use Rattle.bf_reason.specs.inner.Settled.{IsFewValue};
 ghost use Rattle.bf_rule.specs.Verdicts.{total_of};
 
 use bf_clear::value_of;

@@ -4,11 +4,13 @@ use Rattle.std.proofs.lemmas.List.{append_cancel_left}
 use Rattle.bf_report.specs.declared.report.Report.{Report}
 use Rattle.bf_report.specs.Report.{line, report_text}
 use Rattle.bf_report_reader.specs.declared.beginning.ReportSoFar.{ReportSoFar}
-use Rattle.bf_report_reader.specs.Rules.{IsRuled, IsShownReport}
+use Rattle.bf_report_reader.specs.Rules.{IsShownReport}
+use Rattle.bf_report_reader.specs.inner.Rules.{IsRuled}
 use Rattle.bf_report_reader.specs.Faults.{IsInLine, longest_line, Begins, IsReportText}
-use Rattle.bf_report_reader.specs.Beginning.{runs_of, is_whole_at, so_far, opening_text, IsCounted, IsSmall, room}
-use Rattle.bf_report_reader.specs.Steps.{Follows, MayEnd, MayStand, IsNext}
-use Rattle.bf_report_reader.specs.Extensions.{Leads, Extends, IsKnown}
+use Rattle.bf_report_reader.specs.Beginning.{runs_of, is_whole_at, so_far}
+use Rattle.bf_report_reader.specs.inner.Beginning.{opening_text, IsCounted, IsSmall, room}
+use Rattle.bf_report_reader.specs.inner.Steps.{Follows, MayEnd, MayStand, IsNext}
+use Rattle.bf_report_reader.specs.inner.Extensions.{Leads, Extends, IsKnown}
 use Rattle.bf_report_reader.proofs.Splits.{cut_once, none_stands, within_piece, piece_first}
 use Rattle.bf_report_reader.proofs.Words.{at_least, same_limit}
 use Rattle.bf_report_reader.proofs.StepFacts.{follows_next}

@@ -10,11 +10,13 @@ use Rattle.bf_report.specs.declared.report.Report.{Report}
 use Rattle.bf_report.specs.Report.{report_text}
 use Rattle.bf_report_reader.specs.Rules.{IsShownReport}
 use Rattle.bf_report_reader.proofs.HeldFacts.{nothing_first, consumes_more}
-use Rattle.bf_report_reader.specs.Faults.{IsInLine, longest_line, lines_in, IsOpening, Tells, StopsAt}
+use Rattle.bf_report_reader.specs.Faults.{IsInLine, longest_line, lines_in, IsOpening, Tells}
+use Rattle.bf_report_reader.specs.inner.Faults.{StopsAt}
 use Rattle.bf_report_reader.specs.declared.beginning.ReportSoFar.{ReportSoFar}
-use Rattle.bf_report_reader.specs.Beginning.{so_far, opening_text}
-use Rattle.bf_report_reader.specs.Steps.{ReadsOn, MayStand}
-use Rattle.bf_report_reader.specs.Extensions.{SaysHead, IsKnown}
+use Rattle.bf_report_reader.specs.Beginning.{so_far}
+use Rattle.bf_report_reader.specs.inner.Beginning.{opening_text}
+use Rattle.bf_report_reader.specs.inner.Steps.{ReadsOn, MayStand}
+use Rattle.bf_report_reader.specs.inner.Extensions.{SaysHead, IsKnown}
 use Rattle.bf_report_reader.proofs.Paths.{head_of}
 use Rattle.bf_report_reader.proofs.Chains.{Keeps, Goes, IsNextOf, known_goes, no_such_line, no_long_line}
 use Rattle.bf_report_reader.proofs.Reports.{head_goes, opens, opens_nothing}

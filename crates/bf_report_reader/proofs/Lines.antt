@@ -21,15 +21,18 @@ use Rattle.bf_report_reader.specs.declared.entry.Entry.{Entry}
 use Rattle.bf_report_reader.specs.declared.part.GivenPart.{GivenPart}
 use Rattle.bf_report_reader.specs.declared.open.OpenRun.{OpenRun}
 use Rattle.bf_report_reader.specs.declared.beginning.ReportSoFar.{ReportSoFar}
-use Rattle.bf_report_reader.specs.Entries.{IsEntry, entry_text, index_text, never_word}
-use Rattle.bf_report_reader.specs.Parts.{IsToldItem, IsToldPull, IsPart, pull_words, part_text}
-use Rattle.bf_report_reader.specs.Runs.{IsRunInterval, run_words}
-use Rattle.bf_report_reader.specs.Rules.{IsRuled}
+use Rattle.bf_report_reader.specs.inner.Entries.{IsEntry, entry_text, index_text, never_word}
+use Rattle.bf_report_reader.specs.Parts.{IsToldItem, IsToldPull}
+use Rattle.bf_report_reader.specs.inner.Parts.{IsPart, pull_words, part_text}
+use Rattle.bf_report_reader.specs.Runs.{IsRunInterval}
+use Rattle.bf_report_reader.specs.inner.Runs.{run_words}
+use Rattle.bf_report_reader.specs.inner.Rules.{IsRuled}
 use Rattle.bf_report_reader.specs.Faults.{IsInLine, longest_line}
-use Rattle.bf_report_reader.specs.Beginning.{task_count_of, runs_of, is_text, is_next_in, is_next_id_at, is_further_task, goes_on_in, is_next_instance_at, with_entry, with_run, with_part, IsCounted, IsSmall}
+use Rattle.bf_report_reader.specs.Beginning.{task_count_of, runs_of, is_text, is_next_in, is_next_id_at, is_further_task, goes_on_in, is_next_instance_at, with_entry, with_run, with_part}
+use Rattle.bf_report_reader.specs.inner.Beginning.{IsCounted, IsSmall}
 use Rattle.bf_report_reader.specs.declared.reading.Step.{Step}
-use Rattle.bf_report_reader.specs.Reads.{IsWord}
-use Rattle.bf_report_reader.specs.Steps.{Follows, MayEnd, MayStand, Steps, EntrySteps, EndsBy}
+use Rattle.bf_report_reader.specs.inner.Reads.{IsWord}
+use Rattle.bf_report_reader.specs.inner.Steps.{Follows, MayEnd, MayStand, Steps, EntrySteps, EndsBy}
 use Rattle.bf_report_reader.proofs.Splits.{cut_once}
 use Rattle.bf_report_reader.proofs.Words.{id_lacks, id_short, decimal_plain, moment_plain, moment_length, state_plain, never_plain, index_plain, run_state_plain, value_lacks, pulled_lacks, decimal_short, state_short, never_short, run_state_short, index_short, value_short, pulled_short, at_least}
 use Rattle.bf_report_reader.proofs.Spelled.{same_entry, same_run_state, run_fields, apart, same_told, same_pull, same_part}

@@ -14,7 +14,7 @@ use Rattle.bf_report_reader.specs.declared.part.GivenPart.{GivenPart}
 use Rattle.bf_report_reader.specs.Open.{OpenTask, RunSoFar}
 use Rattle.bf_report_reader.specs.Parting.{parted_with, parted, expanded_by, open_by, last_open, open_in, shut_with, shut_by, shut_in, run_so_far}
 use Rattle.bf_report_reader.specs.Beginning.{open_task, task_count_of, closed, never_report, has_item, takes_at, is_given_task, takes_task, is_further_task, further, told, untold, with_told, put_task, put_open, put_further, put_part}
-use Rattle.bf_report_reader.specs.Lasts.{put_last, at_last, told_task, further_task}
+use Rattle.bf_report_reader.specs.inner.Lasts.{put_last, at_last, told_task, further_task}
 use Rattle.bf_report_reader.proofs.Growth.{get_last, count_is}
 
 -- ---- the last

@@ -7,7 +7,7 @@ use Rattle.std.proofs.lemmas.List.Quantifiers.{position-Some}
 use Rattle.std.proofs.Math.Seq.{split_at}
 use Rattle.bf_value.proofs.LackLemmas.{lacks_append}
 use Rattle.bf_report_reader.specs.Faults.{IsInLine, longest_line}
-use Rattle.bf_report_reader.specs.Held.{MovesPiece}
+use Rattle.bf_report_reader.specs.inner.Held.{MovesPiece}
 use Rattle.bf_report_reader.proofs.HeldFacts.{consumes_first, consumes_more}
 use Rattle.bf_report_reader.proofs.Splits.{lacks_before, lacks_all}
 use Rattle.bf_report_reader.proofs.Words.{limit_append}

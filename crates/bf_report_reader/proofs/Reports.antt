@@ -23,13 +23,15 @@ use Rattle.bf_report_reader.specs.declared.part.GivenPart.{GivenPart}
 use Rattle.bf_report_reader.specs.Open.{OpenTask}
 use Rattle.bf_report_reader.specs.declared.open.OpenRun.{OpenRun}
 use Rattle.bf_report_reader.specs.declared.beginning.ReportSoFar.{ReportSoFar}
-use Rattle.bf_report_reader.specs.Entries.{entry_text}
-use Rattle.bf_report_reader.specs.Parts.{IsToldItem, pull_words, part_text}
-use Rattle.bf_report_reader.specs.Runs.{run_words}
+use Rattle.bf_report_reader.specs.inner.Entries.{entry_text}
+use Rattle.bf_report_reader.specs.Parts.{IsToldItem}
+use Rattle.bf_report_reader.specs.inner.Parts.{pull_words, part_text}
+use Rattle.bf_report_reader.specs.inner.Runs.{run_words}
 use Rattle.bf_report_reader.specs.Rules.{IsShownReport}
-use Rattle.bf_report_reader.specs.Beginning.{task_count_of, so_far, opening_text, is_given_task, is_given_in, has_its_item_at, is_whole_in, is_next_in, ids_with, takes_task, may_take_part_in, put_task, put_part, with_entry, IsCountedIn, room}
-use Rattle.bf_report_reader.specs.Steps.{IsNext}
-use Rattle.bf_report_reader.specs.Extensions.{head_words, SaysHead, start, Extends, IsKnown}
+use Rattle.bf_report_reader.specs.Beginning.{task_count_of, so_far, is_given_task, is_given_in, has_its_item_at, is_whole_in, is_next_in, ids_with, takes_task, may_take_part_in, put_task, put_part, with_entry}
+use Rattle.bf_report_reader.specs.inner.Beginning.{opening_text, IsCountedIn, room}
+use Rattle.bf_report_reader.specs.inner.Steps.{IsNext}
+use Rattle.bf_report_reader.specs.inner.Extensions.{head_words, SaysHead, start, Extends, IsKnown}
 use Rattle.bf_report_reader.specs.Faults.{IsInLine, AreLines, Begins, IsOpening, IsReportText, IsFromOutside, Tells}
 use Rattle.bf_report_reader.proofs.Splits.{cut_once, none_stands, tails}
 use Rattle.bf_report_reader.proofs.Words.{id_lacks, id_short, version_plain, at_least}

@@ -23,11 +23,14 @@ use Rattle.bf_report_reader.specs.declared.part.GivenPart.{GivenPart}
 use Rattle.bf_report_reader.specs.Open.{OpenTask}
 use Rattle.bf_report_reader.specs.declared.open.OpenRun.{OpenRun}
 use Rattle.bf_report_reader.specs.declared.beginning.ReportSoFar.{ReportSoFar}
-use Rattle.bf_report_reader.specs.Entries.{IsEntry, IsShownResult}
+use Rattle.bf_report_reader.specs.Entries.{IsShownResult}
+use Rattle.bf_report_reader.specs.inner.Entries.{IsEntry}
 use Rattle.bf_report_reader.specs.Runs.{IsRunInterval}
-use Rattle.bf_report_reader.specs.Parts.{IsPart}
-use Rattle.bf_report_reader.specs.Beginning.{task_with, open_task, tasks_in, task_count_of, closed, last_run, so_far, run_count_of, tells_item, most_told, has_item, takes_at, with_told, untold, is_given_task, is_given_in, is_whole_in, is_whole_at, starts_before, is_text, is_next_in, is_next_id_at, ids_with, is_further, is_further_task, goes_on_in, is_next_instance_at, takes_task, may_take_part_in, put_task, put_open, further, put_further, told, put_part, may_begin_in, with_run, with_task, with_open, with_further, with_part, with_entry, IsCountedIn, IsCounted, IsSmall}
-use Rattle.bf_report_reader.specs.Rules.{AreToldPulls, IsShownInstance, IsShownTask, IsShownRun, Rise, IsShownReport, AreShownBefore, IsOpenInstance, IsOpenTask, IsOpenRun, IsRuled}
+use Rattle.bf_report_reader.specs.inner.Parts.{IsPart}
+use Rattle.bf_report_reader.specs.Beginning.{task_with, open_task, tasks_in, task_count_of, closed, last_run, so_far, run_count_of, tells_item, most_told, has_item, takes_at, with_told, untold, is_given_task, is_given_in, is_whole_in, is_whole_at, starts_before, is_text, is_next_in, is_next_id_at, ids_with, is_further, is_further_task, goes_on_in, is_next_instance_at, takes_task, may_take_part_in, put_task, put_open, further, put_further, told, put_part, may_begin_in, with_run, with_task, with_open, with_further, with_part, with_entry}
+use Rattle.bf_report_reader.specs.inner.Beginning.{IsCountedIn, IsCounted, IsSmall}
+use Rattle.bf_report_reader.specs.Rules.{AreToldPulls, IsShownInstance, IsShownTask, IsShownRun, Rise, IsShownReport}
+use Rattle.bf_report_reader.specs.inner.Rules.{AreShownBefore, IsOpenInstance, IsOpenTask, IsOpenRun, IsRuled}
 use Rattle.bf_report_reader.proofs.Growth.{if_some, count_is, next_parts, further_parts, begin_parts, whole_parts, not_true, new_parts, pull_parts}
 
 -- ---- lists

@@ -17,13 +17,16 @@ use Rattle.bf_report.specs.declared.report.Pull.{Pull}
 use Rattle.bf_report.specs.Report.{state_word, value_word, pulled_word, run_state_word_of}
 use Rattle.bf_plan.proofs.ListLemmas.{some_same}
 use Rattle.bf_report_reader.specs.declared.part.GivenPart.{GivenPart}
-use Rattle.bf_report_reader.specs.Parts.{IsToldValue, IsToldPulled, IsToldPull, IsPart, pull_words, part_text}
+use Rattle.bf_report_reader.specs.Parts.{IsToldValue, IsToldPulled, IsToldPull}
+use Rattle.bf_report_reader.specs.inner.Parts.{IsPart, pull_words, part_text}
 use Rattle.bf_report_reader.specs.declared.entry.Untried.{Untried}
 use Rattle.bf_report_reader.specs.declared.entry.Entry.{Entry}
 use Rattle.bf_report_reader.specs.declared.entry.Entry.TheVariants.{Never, Tried}
-use Rattle.bf_report_reader.specs.Reads.{Spells, IsWord, AreFields}
-use Rattle.bf_report_reader.specs.Entries.{IsShownValue, IsShownOutcome, IsShownResult, SaysOutcome, SaysNever, SaysResult, IsTries, index_text, IsIndex, never_word, entry_text, IsEntry}
-use Rattle.bf_report_reader.specs.Runs.{IsReportMoment, spelled_moment, run_words}
+use Rattle.bf_report_reader.specs.inner.Reads.{Spells, IsWord, AreFields}
+use Rattle.bf_report_reader.specs.Entries.{IsShownValue, IsShownOutcome, IsShownResult, IsTries}
+use Rattle.bf_report_reader.specs.inner.Entries.{SaysOutcome, SaysNever, SaysResult, index_text, IsIndex, never_word, entry_text, IsEntry}
+use Rattle.bf_report_reader.specs.Runs.{IsReportMoment}
+use Rattle.bf_report_reader.specs.inner.Runs.{spelled_moment, run_words}
 use Rattle.bf_report_reader.proofs.Splits.{cut_once}
 use Rattle.bf_report_reader.proofs.Words.{id_lacks, value_not_dash, decimal_plain, moment_plain, state_plain, never_plain, index_plain}
 use Rattle.bf_value.proofs.LackLemmas.{Lacks, decimal_lacks, first_lacks}

@@ -7,13 +7,15 @@ use Rattle.bf_report.specs.Report.{run_line}
 use Rattle.bf_report_reader.specs.declared.entry.Entry.{Entry}
 use Rattle.bf_report_reader.specs.declared.part.GivenPart.{GivenPart}
 use Rattle.bf_report_reader.specs.declared.beginning.ReportSoFar.{ReportSoFar}
-use Rattle.bf_report_reader.specs.Entries.{IsEntry, entry_text}
-use Rattle.bf_report_reader.specs.Parts.{IsPart, part_text}
-use Rattle.bf_report_reader.specs.Runs.{run_words, IsRunInterval}
-use Rattle.bf_report_reader.specs.Rules.{IsRuled}
-use Rattle.bf_report_reader.specs.Beginning.{runs_of, run_count_of, last_run, so_far, opening_text, with_run, with_part, with_entry, IsCounted, IsSmall}
-use Rattle.bf_report_reader.specs.Extensions.{head_words, start}
-use Rattle.bf_report_reader.specs.Steps.{Follows, IsNext, ReadsOn}
+use Rattle.bf_report_reader.specs.inner.Entries.{IsEntry, entry_text}
+use Rattle.bf_report_reader.specs.inner.Parts.{IsPart, part_text}
+use Rattle.bf_report_reader.specs.Runs.{IsRunInterval}
+use Rattle.bf_report_reader.specs.inner.Runs.{run_words}
+use Rattle.bf_report_reader.specs.inner.Rules.{IsRuled}
+use Rattle.bf_report_reader.specs.Beginning.{runs_of, run_count_of, last_run, so_far, with_run, with_part, with_entry}
+use Rattle.bf_report_reader.specs.inner.Beginning.{opening_text, IsCounted, IsSmall}
+use Rattle.bf_report_reader.specs.inner.Extensions.{head_words, start}
+use Rattle.bf_report_reader.specs.inner.Steps.{Follows, IsNext, ReadsOn}
 use Rattle.bf_report_reader.proofs.Growth.{entry_line, entry_grows, run_grows, part_line, part_grows}
 use Rattle.bf_report_reader.proofs.Ruled.{entry_ruled, run_ruled, part_ruled}
 use Rattle.bf_report_reader.proofs.Rooms.{entry_room, run_room, part_room}

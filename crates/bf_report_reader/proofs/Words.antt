@@ -21,7 +21,8 @@ use Rattle.bf_xcom.specs.declared.values.RunState.{RunState}
 use Rattle.bf_report.specs.Report.{state_word, value_word, pulled_word, run_state_word_of, version_word_of}
 use Rattle.bf_report.specs.declared.report.Version.{Version}
 use Rattle.bf_report_reader.specs.declared.entry.Untried.{Untried}
-use Rattle.bf_report_reader.specs.Entries.{index_text, IsIndex, never_word, IsShownOutcome}
+use Rattle.bf_report_reader.specs.Entries.{IsShownOutcome}
+use Rattle.bf_report_reader.specs.inner.Entries.{index_text, IsIndex, never_word}
 use Rattle.bf_report_reader.specs.Parts.{IsToldPulled}
 use Rattle.bf_report_reader.specs.Faults.{longest_line}
 use Rattle.bf_value.proofs.LackLemmas.{Lacks, first_lacks, lacks_more, decimal_lacks, text_lacks}

@@ -1,5 +1,5 @@
 -- The bytes of a device that were read and not used yet.
-use Rattle.std.specs.Prelude.{◌≡◌, ◌≤◌, ◌<◌, ◌+◌, ◌==◌, ℕ, Bool, false, if◌then◌else◌, List, ◌∷◌, ◌++◌, length, take, drop, position, Option, IfSome}
+use Rattle.std.specs.Prelude.{◌≡◌, ◌≤◌, ◌<◌, ◌==◌, ℕ, List, ◌∷◌, ◌++◌, length, take, drop, position, Option, IfSome}
 use Rattle.std.specs.Io.KnownBytes.{prepend_known}
 use Rattle.bf_device.specs.Device.{WentOn, HasHalted}
 use Rattle.bf_report_reader.specs.declared.held.ReadBuffer.{ReadBuffer}
@@ -45,13 +45,3 @@ abbrev pub Breaks : ℕ → ℕ → ℕ → ℕ → ℕ → Type 0
 Breaks count interruptions failures interruptions' failures' =
     (base failed : ℕ) → IsTallied base failed count interruptions failures
     → HasHalted failed failures' base interruptions'
-
--- a line has come on by a piece of the bytes to come, which has all that the line may have and one more at most; where the
--- line ended, its line feed was let go of, and else the piece has some
-pub record MovesPiece (ended : Bool) (old new line longer : List ℕ) : Type 0 where
-  pub piece : List ℕ
-  pub taken : old ≡ piece ++ (if ended then 10 ∷ new else new)
-  pub added : longer ≡ line ++ piece
-  pub in_line : IsInLine piece
-  pub few : length longer + (if ended then 1 else 0) ≤ longest_line line + 1
-  pub some : 0 < length old → ended ≡ false → 0 < length piece

@@ -1,16 +1,12 @@
-pub mod Reads
 pub mod Held
-pub mod Lines
 pub mod Entries
 pub mod Parts
 pub mod Runs
 pub mod Open
 pub mod Parting
 pub mod Beginning
-pub mod Lasts
 pub mod Rules
 pub mod Reading
-pub mod Steps
-pub mod Extensions
 pub mod Faults
 pub mod Refusals
+pub mod inner

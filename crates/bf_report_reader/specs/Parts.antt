@@ -1,12 +1,10 @@
 -- What the lines behind that of an instance tell of what its tries were given.
-use Rattle.std.specs.Prelude.{◌≡◌, ◌≢◌, ℕ, ◌≤◌, true, List, ◌∷◌, ◌++◌, length, Option, Some, None, codes, IsUtf8}
+use Rattle.std.specs.Prelude.{◌≡◌, ◌≢◌, ℕ, ◌≤◌, true, length, Option, Some, None, IsUtf8}
 use Rattle.bf_plan.specs.Ids.{is_id_in}
 use Rattle.bf_value.specs.Json.{json_of, value_of_text}
 use Rattle.bf_value.specs.declared.xval.Xval.{Xval}
 use Rattle.bf_value.specs.declared.xval.Xval.TheVariants.{Nil}
 use Rattle.bf_report.specs.declared.report.Pull.{Pull}
-use Rattle.bf_report.specs.Report.{pulled_word}
-use Rattle.bf_report_reader.specs.declared.part.GivenPart.{GivenPart}
 
 -- a value is what its own text says, its lists are at most so deep, and its text has at most so many bytes
 pub record IsToldValue (deepest longest : ℕ) (value : Xval) : Type 0 where
@@ -25,15 +23,3 @@ IsToldPulled (Some value) = IsToldValue 65 67_109_889 value × (value ≢ Nil)
 
 abbrev pub IsToldPull : Pull → Type 0
 IsToldPull pull = (is_id_in pull.task ≡ true) × IsToldPulled pull.value
-
-abbrev pub IsPart : GivenPart → Type 0
-IsPart (GivenPart.Item item) = IsToldItem item
-IsPart (GivenPart.Pull pull) = IsToldPull pull
-
--- the task's id and what was pulled from it, separated by one space
-abbrev pub pull_words : Pull → List ℕ
-pull_words pull = pull.task ++ 32 ∷ pulled_word pull.value
-
-abbrev pub part_text : GivenPart → List ℕ
-part_text (GivenPart.Item item) = codes "@item" ++ 32 ∷ json_of item
-part_text (GivenPart.Pull pull) = codes "@pull" ++ 32 ∷ pull_words pull

@@ -1,8 +1,9 @@
 //! What a line says of a task, behind the task's id.
 ghost use Rattle.std.specs.Prelude.{◌≡◌, ℕ, List, IfOk, IfSome, IfNone, decimal};
-ghost use Rattle.bf_report_reader.specs.Reads.{Spells, Finds, AreFields};
+ghost use Rattle.bf_report_reader.specs.inner.Reads.{Spells, Finds, AreFields};
 ghost use Rattle.bf_report_reader.specs.Beginning.{never_report};
-ghost use Rattle.bf_report_reader.specs.Entries.{IsIndex, index_text, IsEntry, entry_text, never_word, SaysNever, IsTries, SaysResult};
+ghost use Rattle.bf_report_reader.specs.Entries.{IsTries};
+ghost use Rattle.bf_report_reader.specs.inner.Entries.{IsIndex, index_text, IsEntry, entry_text, never_word, SaysNever, SaysResult};
 
 use crate::field::{number_in, split_field};
 use crate::value::outcome_in;

@@ -1,6 +1,6 @@
 //! The fields of a line.
 ghost use Rattle.std.specs.Prelude.{◌≡◌, ◌==◌, ◌<◌, ◌^◌, ◌++◌, ◌∷◌, [], ℕ, IfSome, IfNone, Some, decimal, position};
-ghost use Rattle.bf_report_reader.specs.Reads.{IsWord};
+ghost use Rattle.bf_report_reader.specs.inner.Reads.{IsWord};
 
 use itoa::Buffer;
 use memchr::memchr;

@@ -1,8 +1,9 @@
 //! What the line of a run says.
 ghost use Rattle.std.specs.Prelude.{◌≡◌, IfSome};
 ghost use Rattle.bf_report.specs.Report.{run_state_word_of};
-ghost use Rattle.bf_report_reader.specs.Reads.{Spells, Finds};
-ghost use Rattle.bf_report_reader.specs.Runs.{IsReportMoment, spelled_moment, IsRunWords, run_words};
+ghost use Rattle.bf_report_reader.specs.inner.Reads.{Spells, Finds};
+ghost use Rattle.bf_report_reader.specs.Runs.{IsReportMoment};
+ghost use Rattle.bf_report_reader.specs.inner.Runs.{spelled_moment, IsRunWords, run_words};
 
 use crate::field::split_field;
 use bf_interval::{FIRST_NANOSECOND, Interval, is_in_years};

@@ -1,7 +1,9 @@
 //! Lines, taken off a device.
 ghost use Rattle.std.specs.Prelude.{◌≡◌, ◌≤◌, if◌then◌else◌, length, IfOk, OnOk, IfErr};
-ghost use Rattle.bf_report_reader.specs.Held.{held_bytes, ahead, Tallies, Breaks, MovesPiece};
-ghost use Rattle.bf_report_reader.specs.Faults.{longest_line, Came, IsInLine, IsFromOutside};
+ghost use Rattle.bf_report_reader.specs.Held.{held_bytes, ahead, Tallies, Breaks};
+ghost use Rattle.bf_report_reader.specs.inner.Held.{MovesPiece};
+ghost use Rattle.bf_report_reader.specs.Faults.{longest_line, IsInLine, IsFromOutside};
+ghost use Rattle.bf_report_reader.specs.inner.Faults.{Came};
 
 use crate::fault::ReportFault;
 use crate::held::{LONGEST_LINE, ReadBuffer, line_feed_in};

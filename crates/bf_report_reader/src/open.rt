@@ -5,7 +5,7 @@ ghost use Rattle.std.specs.Prelude.{◌≡◌, ◌∷◌, ◌++◌, [], ℕ, tru
 ghost use Rattle.std.specs.List.{list_any};
 ghost use Rattle.std.specs.Str.{bytes_eq};
 ghost use Rattle.bf_report_reader.specs.Parting.{open_by};
-ghost use Rattle.bf_report_reader.specs.Lasts.{told_instances, told_task, further_task, at_last};
+ghost use Rattle.bf_report_reader.specs.inner.Lasts.{told_instances, told_task, further_task, at_last};
 ghost use Rattle.bf_report_reader.specs.Beginning.{never_report, opened_by, task_count_of, closed, most_told, with_told, is_further_task, is_given_task, takes_at, takes_task, put_task, put_open, put_further, put_part};
 
 use crate::entry::Untried;

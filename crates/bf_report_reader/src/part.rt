@@ -2,8 +2,9 @@
 ghost use Rattle.std.specs.Prelude.{◌≡◌, ◌++◌, ◌∷◌, IfOk, IfSome};
 ghost use Rattle.bf_value.specs.Json.{json_of};
 ghost use Rattle.bf_report.specs.Report.{pulled_word};
-ghost use Rattle.bf_report_reader.specs.Reads.{Spells, Finds};
-ghost use Rattle.bf_report_reader.specs.Parts.{IsToldValue, IsToldItem, IsToldPulled, IsToldPull, pull_words};
+ghost use Rattle.bf_report_reader.specs.inner.Reads.{Spells, Finds};
+ghost use Rattle.bf_report_reader.specs.Parts.{IsToldValue, IsToldItem, IsToldPulled, IsToldPull};
+ghost use Rattle.bf_report_reader.specs.inner.Parts.{pull_words};
 
 use crate::field::split_field;
 use crate::value::value_if_spelled;

@@ -3,14 +3,17 @@ ghost use Rattle.std.specs.Prelude.{◌≡◌, ◌≢◌, ◌<◌, ◌≤◌, �
 ghost use Rattle.std.specs.Io.KnownBytes.{Consumes, IsAtEnd};
 ghost use Rattle.bf_device.specs.Device.{HasHalted, HasGoneOn};
 ghost use Rattle.bf_report.specs.Report.{version_word_of, report_text};
-ghost use Rattle.bf_report_reader.specs.Reads.{IsWord, Finds};
+ghost use Rattle.bf_report_reader.specs.inner.Reads.{IsWord, Finds};
 ghost use Rattle.bf_report_reader.specs.Held.{held_bytes, ahead, Tallies, Breaks};
-ghost use Rattle.bf_report_reader.specs.Lines.{line_in};
-ghost use Rattle.bf_report_reader.specs.Beginning.{IsCounted, IsSmall, so_far, opening_text};
-ghost use Rattle.bf_report_reader.specs.Rules.{IsRuled, IsShownReport};
-ghost use Rattle.bf_report_reader.specs.Faults.{longest_line, IsInLine, StopsAt, Tells, IsReportText, IsFromOutside, lines_in};
-ghost use Rattle.bf_report_reader.specs.Steps.{Steps, EntrySteps, EndsBy, ReadsOn};
-ghost use Rattle.bf_report_reader.specs.Extensions.{SaysHead, IsKnown};
+ghost use Rattle.bf_report_reader.specs.inner.Lines.{line_in};
+ghost use Rattle.bf_report_reader.specs.Beginning.{so_far};
+ghost use Rattle.bf_report_reader.specs.inner.Beginning.{IsCounted, IsSmall, opening_text};
+ghost use Rattle.bf_report_reader.specs.Rules.{IsShownReport};
+ghost use Rattle.bf_report_reader.specs.inner.Rules.{IsRuled};
+ghost use Rattle.bf_report_reader.specs.Faults.{longest_line, IsInLine, Tells, IsReportText, IsFromOutside, lines_in};
+ghost use Rattle.bf_report_reader.specs.inner.Faults.{StopsAt};
+ghost use Rattle.bf_report_reader.specs.inner.Steps.{Steps, EntrySteps, EndsBy, ReadsOn};
+ghost use Rattle.bf_report_reader.specs.inner.Extensions.{SaysHead, IsKnown};
 
 use crate::beginning::ReportSoFar;
 use crate::entry::entry_in;

@@ -1,8 +1,9 @@
 //! What a line says of how an instance ended.
 ghost use Rattle.std.specs.Prelude.{◌≡◌, ◌≢◌, IfOk, IfSome, IfNone, codes};
 ghost use Rattle.bf_value.specs.Json.{json_of};
-ghost use Rattle.bf_report_reader.specs.Reads.{Spells, Finds};
-ghost use Rattle.bf_report_reader.specs.Entries.{IsShownValue, SaysOutcome};
+ghost use Rattle.bf_report_reader.specs.inner.Reads.{Spells, Finds};
+ghost use Rattle.bf_report_reader.specs.Entries.{IsShownValue};
+ghost use Rattle.bf_report_reader.specs.inner.Entries.{SaysOutcome};
 
 use bf_try::LONGEST_VALUE;
 use bf_value::{LineFault, OutOfMemory, Xval, read_line, text_of};

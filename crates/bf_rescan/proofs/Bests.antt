@@ -11,11 +11,12 @@ use Rattle.bf_core.specs.declared.event.Event.{Event}
 use Rattle.bf_core.specs.declared.state.Phase.{Phase}
 use Rattle.bf_core.specs.declared.state.Instance.{Instance}
 use Rattle.bf_core.specs.Events.{cell_at, instance_of}
-use Rattle.bf_core.specs.Checks.{HasRows}
+use Rattle.bf_core.specs.inner.Checks.{HasRows}
 use Rattle.bf_core.specs.Cores.{Backfill, IsReplay, MayCome}
 use Rattle.bf_core.proofs.Enabling.{present_there}
-use Rattle.bf_waiting.specs.Choices.{IsPreferred, NameComesBefore, IsNextTry}
-use Rattle.bf_rescan.specs.Looks.{AreWeights, IsBest, IsTryAt, IsTryBefore, IsTryOf, weightier_try_of, instances_of}
+use Rattle.bf_waiting.specs.Choices.{IsPreferred, NameComesBefore, IsNextTry, AreWeights}
+use Rattle.bf_rescan.specs.inner.Looks.{IsBest, IsTryAt, IsTryBefore, IsTryOf, weightier_try_of}
+use Rattle.bf_waiting.specs.Standings.{instances_of}
 use Rattle.bf_rescan.proofs.Present.{IsTryBelow, one_named, named_so, below_count, last_task, one_more_task, last_run, one_more_run}
 
 -- the best of some tries is the best of others, where all that may begin of the one are of the other

@@ -12,7 +12,8 @@ use Rattle.bf_core.specs.Events.{IsPresent, cell_at, instance_of, place_in}
 use Rattle.bf_core.specs.Cores.{Backfill, IsReplay}
 use Rattle.bf_core.proofs.Named.{place_named}
 use Rattle.bf_waiting.proofs.Taking.{held_in}
-use Rattle.bf_rescan.specs.Looks.{IsTryAt, IsTryBefore, IsTryOf, instances_of}
+use Rattle.bf_rescan.specs.inner.Looks.{IsTryAt, IsTryBefore, IsTryOf}
+use Rattle.bf_waiting.specs.Standings.{instances_of}
 
 -- the same, of an instance before place i
 abbrev pub IsTryBelow : Dag → ℕ → ℕ → ℕ → JobName → Type 0

@@ -8,13 +8,15 @@ use Rattle.bf_core.specs.declared.event.Event.{Event}
 use Rattle.bf_core.specs.declared.state.Phase.{Phase}
 use Rattle.bf_core.specs.declared.state.Instance.{Instance}
 use Rattle.bf_core.specs.Events.{cell_at, instance_of}
-use Rattle.bf_core.specs.Checks.{HasRows}
+use Rattle.bf_core.specs.inner.Checks.{HasRows}
 use Rattle.bf_core.specs.Clocks.{IsReached, IsTimely}
 use Rattle.bf_core.specs.Cores.{Backfill, IsReplay, MayCome, WaitsLater}
 use Rattle.bf_core.proofs.Enabling.{present_there}
 use Rattle.bf_waiting.proofs.Soonest.{min_left, min_right}
 use Rattle.bf_waiting.specs.Choices.{IsNextMoment}
-use Rattle.bf_rescan.specs.Looks.{IsLeast, IsSoonest, IsTryAt, IsTryBefore, IsTryOf, earlier_moment_of, instances_of}
+use Rattle.bf_rescan.specs.inner.Looks.{IsLeast, IsSoonest, IsTryAt, IsTryBefore, IsTryOf}
+use Rattle.bf_waiting.specs.Looks.{earlier_moment_of}
+use Rattle.bf_waiting.specs.Standings.{instances_of}
 use Rattle.bf_core.proofs.Named.{present_named}
 use Rattle.bf_rescan.proofs.Present.{IsTryBelow, one_named, named_so, phase_at, below_count, last_place, one_more_place, last_task, one_more_task, last_run, one_more_run}
 

@@ -1,1 +1,1 @@
-pub mod Looks
+pub mod inner

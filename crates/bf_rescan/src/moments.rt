@@ -3,7 +3,7 @@ ghost use Rattle.std.specs.Prelude.{◌≡◌, ◌<◌, ◌≤◌, ◌+◌, leng
 ghost use Rattle.bf_core.specs.Cores.{IsThere};
 ghost use Rattle.bf_core.specs.Events.{cell_at, instance_of};
 ghost use Rattle.bf_waiting.specs.Choices.{IsNextMoment};
-ghost use Rattle.bf_rescan.specs.Looks.{IsSoonest, IsTryAt, IsTryBefore, IsTryOf};
+ghost use Rattle.bf_rescan.specs.inner.Looks.{IsSoonest, IsTryAt, IsTryBefore, IsTryOf};
 
 use bf_core::{Core, Instance, Phase, name_of};
 use bf_waiting::{earlier_moment, instances_of};

@@ -1,3 +1,3 @@
 pub mod Onward
 pub mod Walks
-pub mod Showing
+pub mod inner

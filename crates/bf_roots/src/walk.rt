@@ -1,7 +1,7 @@
 //! The walk from a task to the roots of its state.
 ghost use Rattle.std.specs.Prelude.{◌≡◌, ◌≤◌, ◌∷◌, [], All, IfOk, OnOk, false, length};
 ghost use Rattle.bf_reason.specs.Settled.{IsFewTask};
-ghost use Rattle.bf_roots.specs.Showing.{LooksAt};
+ghost use Rattle.bf_roots.specs.inner.Showing.{LooksAt};
 ghost use Rattle.bf_roots.specs.Walks.{AreRootsOf, first_step_of, is_seen_in, nothing_seen};
 
 use crate::onward::{add_root, steps_onward};

@@ -2,7 +2,7 @@
 ghost use Rattle.std.specs.Prelude.{◌≡◌, All, IfOk};
 ghost use Rattle.bf_reason.specs.Runs.{tasks_in, tasks_before};
 ghost use Rattle.bf_reason.specs.Settled.{IsFewTask};
-ghost use Rattle.bf_roots.specs.Showing.{IsShowing};
+ghost use Rattle.bf_roots.specs.inner.Showing.{IsShowing};
 
 use bf_reason::{Settled, settled_tasks};
 use bf_report::{Report, TaskReport};

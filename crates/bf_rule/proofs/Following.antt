@@ -17,7 +17,8 @@ use Rattle.bf_graph.specs.Reach.{IsPath, Reaches}
 use Rattle.bf_value.specs.Distinct.{AreDistinct}
 use Rattle.bf_graph.specs.Shape.{Shape}
 use Rattle.bf_graph.proofs.PathLemmas.{task_within}
-use Rattle.bf_rule.specs.Branches.{name_in, names_in, id_of, is_direct_downstream_in, is_named, followed_to, followed_at, followed_by_name, IsNamedOrReached}
+use Rattle.bf_rule.specs.Branches.{name_in, names_in, id_of, is_direct_downstream_in, is_named, followed_to, followed_at, IsNamedOrReached}
+use Rattle.bf_rule.specs.inner.Branches.{followed_by_name}
 
 -- ---- booleans
 

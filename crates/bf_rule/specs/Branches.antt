@@ -49,11 +49,6 @@ IsNamedOrReached shape branch value task =
     (named : ℕ) × (is_named shape branch value named ≡ true)
     × ((named ≡ task) ⊎ Reaches shape.upstreams named task)
 
--- the same of a branch that names one task or nothing
-abbrev pub followed_by_name : Shape → ℕ → ℕ → Option (List ℕ) → Bool
-followed_by_name shape branch task None = false
-followed_by_name shape branch task (Some name) = followed_at shape branch (Some (Text name)) task
-
 -- ---- what a branch may push
 
 abbrev pub is_downstream_number : Shape → ℕ → Option ℕ → Bool

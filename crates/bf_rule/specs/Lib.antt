@@ -1,3 +1,4 @@
 pub mod Verdicts
 pub mod Branches
 pub mod Names
+pub mod inner

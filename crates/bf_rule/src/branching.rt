@@ -1,7 +1,8 @@
 //! Branches.
 ghost use Rattle.std.specs.Prelude.{◌≡◌, ◌⊎◌, ◌↔◌, ◌<◌, length, IsTrue, Some, option_map};
 ghost use Rattle.bf_graph.specs.Reach.{Reaches};
-ghost use Rattle.bf_rule.specs.Branches.{is_direct_downstream_in, is_downstream_name_in, name_in, names_downstreams_in, followed_at, followed_by_name};
+ghost use Rattle.bf_rule.specs.Branches.{is_direct_downstream_in, is_downstream_name_in, name_in, names_downstreams_in, followed_at};
+ghost use Rattle.bf_rule.specs.inner.Branches.{followed_by_name};
 ghost use Rattle.std.specs.List.{list_all, list_any};
 
 use bf_graph::Graph;

@@ -6,7 +6,8 @@ use Rattle.bf_try.specs.declared.answers.Raw.{Raw}
 use Rattle.bf_core.specs.Terms.{Dag, Given, JobName, Limits}
 use Rattle.bf_core.specs.declared.event.Event.{Event}
 use Rattle.bf_core.specs.Cores.{Backfill, MayCome, opening}
-use Rattle.bf_core.specs.Driven.{IsDriven, IsOver}
+use Rattle.bf_core.specs.Driven.{IsDriven}
+use Rattle.bf_core.specs.inner.Driven.{IsOver}
 use Rattle.bf_core.specs.Endings.{Ending, ending_of}
 use Rattle.bf_core.specs.Events.{cell_at, given_in, place_in}
 use Rattle.bf_core.specs.Running.{running_now}

@@ -10,7 +10,8 @@ use Rattle.bf_plan.specs.declared.plan.Dag.{Dag}
 use Rattle.bf_dependents.specs.declared.seeds.Seed.{Seed}
 use Rattle.bf_seeds.specs.declared.fault.SeedsFault.{SeedsFault}
 use Rattle.bf_seeds.specs.declared.fault.SeedsFault.TheVariants.{BadFile, BadSeed, Unknown, OutOfMemory}
-use Rattle.bf_seeds.specs.Seeds.{split_at_space_of, is_space, parts, AreSeeds, IsEarliest, IsFaultOfLine, IsFaultOfSeed, IsFirstFault, IsSeedOf, SpellsSeed}
+use Rattle.bf_seeds.specs.Seeds.{split_at_space_of, is_space, parts, AreSeeds, IsEarliest, IsFaultOfLine, IsFirstFault, IsSeedOf, SpellsSeed}
+use Rattle.bf_seeds.specs.inner.Seeds.{IsFaultOfSeed}
 
 not_below : (n : ℕ) → nat_lt n n ≡ false
 not_below n = grind arith

@@ -1,2 +1,2 @@
 pub mod Seeds
-pub mod Words
+pub mod inner

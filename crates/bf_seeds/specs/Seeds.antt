@@ -85,13 +85,6 @@ AreSeeds dag intervals (line ∷ lines) (seed ∷ seeds) =
     IsSeedOf dag intervals line seed × AreSeeds dag intervals lines seeds
 AreSeeds dag intervals _ _ = ⊥
 
--- why a seed is refused: its task is unknown, and else its run
-abbrev pub IsFaultOfSeed : Dag → List Interval → Seed → SeedsFault → Type 0
-IsFaultOfSeed dag intervals seed BadFile = ⊥
-IsFaultOfSeed dag intervals seed (BadSeed line) = ⊥
-IsFaultOfSeed dag intervals seed (Unknown fault) = seed_fault dag intervals (seed ∷ []) ≡ Some fault
-IsFaultOfSeed dag intervals seed OutOfMemory = Unit {0}
-
 -- why a line is refused: it is of no seed, and else its seed is
 abbrev pub IsFaultOfLine : Dag → List Interval → List ℕ → SeedsFault → Type 0
 IsFaultOfLine dag intervals line BadFile = ⊥

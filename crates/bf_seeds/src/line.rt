@@ -2,7 +2,7 @@
 ghost use Rattle.std.specs.Prelude.{◌≡◌, ℕ, ℤ, List, Option, IfSome, IfNone, option_map};
 ghost use Rattle.bf_dependents.specs.declared.seeds.Seed.{Seed};
 ghost use Rattle.bf_seeds.specs.Seeds.{split_at_space_of, SpellsSeed, SpellsTask};
-ghost use Rattle.bf_seeds.specs.Words.{seed_of};
+ghost use Rattle.bf_seeds.specs.inner.Words.{seed_of};
 
 use crate::index::index_in;
 use bf_moment::moment_in;

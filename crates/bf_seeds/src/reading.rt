@@ -2,7 +2,8 @@
 ghost use Rattle.std.specs.Prelude.{◌≡◌, ◌⊎◌, ◌∷◌, ◌++◌, [], map, None, IfOk, IfErr, OnOk};
 ghost use Rattle.bf_dependents.specs.Seeds.{seed_fault};
 ghost use Rattle.bf_seeds.specs.declared.fault.SeedsFault.TheVariants;
-ghost use Rattle.bf_seeds.specs.Seeds.{AreSeeds, IsFaultOfLine, IsFaultOfSeed, IsFirstFault, IsSeedOf, lines_in};
+ghost use Rattle.bf_seeds.specs.Seeds.{AreSeeds, IsFaultOfLine, IsFirstFault, IsSeedOf, lines_in};
+ghost use Rattle.bf_seeds.specs.inner.Seeds.{IsFaultOfSeed};
 
 use crate::fault::SeedsFault;
 use crate::line::words_in;

@@ -21,7 +21,8 @@ use Rattle.bf_report.proofs.ReportFacts.{numbered_more}
 use Rattle.bf_show.specs.declared.key.Key.{Key}
 use Rattle.bf_show.specs.declared.key.Key.TheVariants.{End, RunState, Task, Index, State, Tries, Value, Item, Pulls}
 use Rattle.bf_show.specs.JsonLines.{line, run_members, value_members, pulled_data, pull_members, pulls_members, ended_members, instance_members, untried_members, mapped_lines, tasks_lines}
-use Rattle.bf_show.specs.Pieces.{key_word, key_text, run_start, line_end}
+use Rattle.bf_show.specs.Pieces.{key_word, key_text, run_start}
+use Rattle.bf_show.specs.inner.Pieces.{line_end}
 
 -- ---- members
 

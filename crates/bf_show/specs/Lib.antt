@@ -1,2 +1,3 @@
 pub mod JsonLines
 pub mod Pieces
+pub mod inner

@@ -1,8 +1,6 @@
 -- Lines of JSON, as they are put together.
-use Rattle.std.specs.Prelude.{ℕ, true, List, [], ◌∷◌, ◌++◌, codes}
+use Rattle.std.specs.Prelude.{ℕ, List, [], ◌∷◌, ◌++◌, codes}
 use Rattle.json.specs.Print.{quoted}
-use Rattle.serde_json.specs.Data.{Members}
-use Rattle.serde_json.specs.Written.{members_text}
 use Rattle.bf_moment.specs.Moment.{moment_text}
 use Rattle.bf_report.specs.declared.report.RunReport.{RunReport}
 use Rattle.bf_report.specs.Report.{run_state_word_of}
@@ -31,7 +29,3 @@ run_start run =
     123 ∷ (quoted (codes "run") ++ 58 ∷ (quoted (moment_text run.interval.start.nanosecond)
     ++ (key_text End ++ (quoted (moment_text run.interval.end.nanosecond)
     ++ (key_text RunState ++ quoted (run_state_word_of run.state))))))
-
--- further members, the bracket and the line feed
-unfoldable pub line_end : Members → List ℕ
-line_end members = members_text true members ++ 10 ∷ []

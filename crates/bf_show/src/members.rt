@@ -5,7 +5,8 @@ ghost use Rattle.serde_json.specs.Data.{Members};
 ghost use Rattle.serde_json.specs.Written.{compact_text, members_text};
 ghost use Rattle.bf_report.specs.Report.{state_word};
 ghost use Rattle.bf_show.specs.JsonLines.{value_members, pulled_data, pull_members, pulls_members, ended_members};
-ghost use Rattle.bf_show.specs.Pieces.{key_word, line_end};
+ghost use Rattle.bf_show.specs.Pieces.{key_word};
+ghost use Rattle.bf_show.specs.inner.Pieces.{line_end};
 
 use crate::key::{Key, push_key};
 use bf_report::{InstanceReport, Pull};

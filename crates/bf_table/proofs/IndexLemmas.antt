@@ -7,7 +7,8 @@ use Rattle.bf_value.proofs.ReadLemmas.{drop_item}
 use Rattle.bf_plan.proofs.ListLemmas.{position_cons}
 use Rattle.bf_table.specs.declared.table.TableEntry.{TableEntry}
 use Rattle.bf_table.specs.declared.table_index.Pattern.{Pattern}
-use Rattle.bf_table.specs.TableIndex.{earlier_place_of, first_of_key, first_of_keys, is_pattern, pattern_cmp, pattern_in}
+use Rattle.bf_table.specs.TableIndex.{first_of_key, is_pattern, pattern_cmp, pattern_in}
+use Rattle.bf_table.specs.inner.TableIndex.{earlier_place_of, first_of_keys}
 
 -- ---- the earliest
 

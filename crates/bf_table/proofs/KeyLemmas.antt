@@ -16,7 +16,8 @@ use Rattle.bf_plan.proofs.ListLemmas.{some_same}
 use Rattle.bf_table.specs.declared.table.TableEntry.{TableEntry}
 use Rattle.bf_table.specs.declared.table_index.Pattern.{Pattern}
 use Rattle.bf_table.specs.Tables.{answers_for_in, matches_number_in, matches_text_in}
-use Rattle.bf_table.specs.TableIndex.{date_named, earlier_place_of, first_of_keys, is_pattern, keys_of, keys_with_date, keys_with_index, keys_with_task, number_named, pattern_cmp, pattern_in, IsIndexOf, pattern_of_try}
+use Rattle.bf_table.specs.TableIndex.{date_named, is_pattern, number_named, pattern_cmp, pattern_in, IsIndexOf}
+use Rattle.bf_table.specs.inner.TableIndex.{earlier_place_of, first_of_keys, keys_of, keys_with_date, keys_with_index, keys_with_task, pattern_of_try}
 use Rattle.bf_plan.proofs.ListLemmas.{position_cons}
 use Rattle.bf_try.proofs.Pushes.{same_answer}
 

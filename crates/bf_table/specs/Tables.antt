@@ -1,5 +1,5 @@
 -- What a table of answers says, and what it answers.
-use Rattle.std.specs.Prelude.{◌≡◌, ℕ, ◌+◌, ◌++◌, ◌&&◌, ℤ, pos, negsuc, nat_le, Bool, true, false, if◌then◌else◌, List, [], ◌∷◌, length, map, codes, decimal, find, slice_index_or, Option, Some, None, option_map, option_and_then, Result, Ok, Err}
+use Rattle.std.specs.Prelude.{ℕ, ◌+◌, ◌++◌, ◌&&◌, ℤ, pos, negsuc, nat_le, Bool, true, false, if◌then◌else◌, List, [], ◌∷◌, length, map, codes, decimal, find, slice_index_or, Option, Some, None, option_map, option_and_then, Result, Ok, Err}
 use Rattle.std.specs.Ordering.{int_eq}
 use Rattle.std.specs.List.{list_any}
 use Rattle.std.specs.Str.{is_utf8, bytes_eq}
@@ -136,20 +136,6 @@ abbrev pub fault_text : TableFault → List ℕ
 fault_text (BadTable (Some number)) = codes "bad table: " ++ decimal number
 fault_text (BadTable None) = codes "bad table: file"
 fault_text OutOfMemory = codes "out of memory"
-
--- ---- what is read, for private clauses
-
--- a part of the table, or that what stands at this number is bad, unless memory ran out
-abbrev pub Reads : {A B : Type 0} → Option ℕ → (A → B) → Result A TableFault → Option B → Type 0
-Reads number view (Ok x) part = part ≡ Some (view x)
-Reads number view (Err (BadTable bad)) part = (bad ≡ number) × (part ≡ None)
-Reads number view (Err OutOfMemory) part = Unit {0}
-
--- what the definition gives, unless memory ran out
-abbrev pub Gives : {A B : Type 0} → (A → B) → Result A TableFault → Result B TableFault → Type 0
-Gives view (Ok x) given = given ≡ Ok (view x)
-Gives view (Err (BadTable bad)) given = given ≡ Err (BadTable bad)
-Gives view (Err OutOfMemory) given = Unit {0}
 
 -- ---- what a table answers
 

@@ -1,7 +1,8 @@
 //! Which entry of a table comes first of those that name the same.
 ghost use Rattle.std.specs.Prelude.{◌≡◌, ◌≤◌, ◌<◌, None, Some, IfOk};
 ghost use Rattle.std.specs.BTreeMap;
-ghost use Rattle.bf_table.specs.TableIndex.{date_named, keys_with_date, keys_with_index, keys_with_task, earlier_place_of, first_of_keys, keys_of, number_named, pattern_cmp, pattern_in, pattern_of_try, IsIndexOf};
+ghost use Rattle.bf_table.specs.TableIndex.{date_named, number_named, pattern_cmp, pattern_in, IsIndexOf};
+ghost use Rattle.bf_table.specs.inner.TableIndex.{keys_with_date, keys_with_index, keys_with_task, earlier_place_of, first_of_keys, keys_of, pattern_of_try};
 
 use crate::table::TableEntry;
 use bf_graph::Graph;

@@ -6,7 +6,8 @@ ghost use Rattle.std.specs.Option.{ForSome};
 ghost use Rattle.serde_json.specs.Events.{items_len};
 ghost use Rattle.serde_json.specs.Find.{as_array, as_str};
 ghost use Rattle.serde_json.specs.View.{view, items_view, members_view};
-ghost use Rattle.bf_table.specs.Tables.{is_key_in, has_known_keys_in, is_entry_in, if_there, number_of, date_in, status_in, line_in, entry_of, entries_of, entries_from, json_of_file, table_in, table_with, Gives, Reads};
+ghost use Rattle.bf_table.specs.Tables.{is_key_in, has_known_keys_in, is_entry_in, if_there, number_of, date_in, status_in, line_in, entry_of, entries_of, entries_from, json_of_file, table_in, table_with};
+ghost use Rattle.bf_table.specs.inner.Tables.{Gives, Reads};
 
 use crate::table::{TableEntry, TableFault};
 use bf_moment::is_long_moment;

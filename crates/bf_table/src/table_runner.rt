@@ -1,7 +1,8 @@
 //! A runner that answers by a table.
 ghost use Rattle.std.specs.Prelude.{◌≡◌, [], All, IfOk, find, option_and_then, option_copied, slice_get, slice_index_or, length, IfNone, IfSome};
 ghost use Rattle.std.specs.BTreeMap;
-ghost use Rattle.bf_table.specs.TableIndex.{first_of_keys, keys_of, pattern_cmp, IsIndexOf};
+ghost use Rattle.bf_table.specs.TableIndex.{pattern_cmp, IsIndexOf};
+ghost use Rattle.bf_table.specs.inner.TableIndex.{first_of_keys, keys_of};
 ghost use Rattle.bf_plan.specs.Plans.{task_of};
 ghost use Rattle.bf_moment.specs.Moment.{IsShown};
 ghost use Rattle.bf_table.specs.Tables.{answer_of, answers_for_in, dates_in, matches_number_in, matches_text_in, raw_in};

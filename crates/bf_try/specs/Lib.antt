@@ -1,3 +1,4 @@
 pub mod Tries
 pub mod Grades
 pub mod Asked
+pub mod inner

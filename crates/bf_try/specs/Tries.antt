@@ -53,11 +53,6 @@ result_of dag ledger run task place =
 
 -- ---- two ledgers
 
--- an equal outcome, where the other try was given the same
-abbrev pub Agree : Entry → Option Entry → Type 0
-Agree entry other =
-    (same : Entry) → other ≡ Some same → entry.given ≡ same.given → entry.outcome ≡ same.outcome
-
 -- equal outcomes wherever name and Given are equal
 abbrev pub AreAlike : Ledger → Ledger → Type 0
 AreAlike one two =

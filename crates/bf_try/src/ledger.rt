@@ -3,7 +3,8 @@ ghost use Rattle.std.specs.Prelude.{◌≡◌, ◌↔◌, All, None, IsSome, IsT
 ghost use Rattle.std.specs.FinMap;
 ghost use Rattle.std.specs.BTreeMap.{IsOrdered};
 ghost use Rattle.bf_value.specs.Names.{name_cmp};
-ghost use Rattle.bf_try.specs.Tries.{Agree, AreAlike};
+ghost use Rattle.bf_try.specs.Tries.{AreAlike};
+ghost use Rattle.bf_try.specs.inner.Tries.{Agree};
 
 use bf_value::JobName;
 use bf_xcom::{Given, Outcome};

@@ -9,7 +9,8 @@ use Rattle.std.proofs.lemmas.List.Sums.{sum_by-cons}
 use Rattle.std.proofs.Math.Nat.{pow-le-pow_right, pow-succ'}
 use Rattle.json.specs.Print.{escape, escape_byte, escape_letter, quoted}
 use Rattle.serde_json.specs.Written.{items_text}
-use Rattle.bf_value.specs.Json.{data_items, list_text, json_of}
+use Rattle.bf_value.specs.Json.{data_items, json_of}
+use Rattle.bf_value.specs.inner.Json.{list_text}
 use Rattle.bf_value.specs.Plain.{Plains, plain_depth, plains_depth}
 use Rattle.bf_value.specs.Views.{plain_of, plains_of}
 use Rattle.bf_value.specs.declared.xval.Xval.{Xval}

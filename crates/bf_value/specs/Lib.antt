@@ -7,3 +7,4 @@ pub mod Codes
 pub mod Same
 pub mod Names
 pub mod Distinct
+pub mod inner

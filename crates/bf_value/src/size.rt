@@ -3,7 +3,8 @@ ghost use Rattle.std.specs.Prelude.{◌≡◌, ◌-◌, ◌≤◌, ◌↔◌, Is
 ghost use Rattle.std.specs.Fmt.{signed_decimal};
 ghost use Rattle.std.specs.Option.{SomeIff};
 ghost use Rattle.json.specs.Print.{escape_byte, escape_letter, quoted};
-ghost use Rattle.bf_value.specs.Json.{list_text, json_of};
+ghost use Rattle.bf_value.specs.Json.{json_of};
+ghost use Rattle.bf_value.specs.inner.Json.{list_text};
 ghost use Rattle.bf_value.specs.Plain.{plain_depth, plains_depth};
 ghost use Rattle.bf_value.specs.Views.{plain_of};
 

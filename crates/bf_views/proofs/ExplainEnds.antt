@@ -11,14 +11,17 @@ use Rattle.bf_command_fault.specs.Refusal.{Leaves}
 use Rattle.bf_command_fault.specs.declared.status.Status.{Status}
 use Rattle.bf_disk.specs.Files.{AreReadable, Files}
 use Rattle.bf_explain.specs.declared.paths.Paths.{Paths}
-use Rattle.bf_input.specs.Inputs.{IsReadOf, IsReportFault, graph_paths}
+use Rattle.bf_input.specs.Inputs.{IsReportFault, graph_paths}
+use Rattle.bf_input.specs.inner.Inputs.{IsReadOf}
 use Rattle.bf_input.specs.Moments.{IsNoMoment, Means}
 use Rattle.bf_views.specs.declared.planned.Planned.{Planned}
 use Rattle.bf_views.specs.Asked.{asked_fault}
-use Rattle.bf_views.specs.ExplainFaults.{IsExplainFault, IsExplainFaultAt, IsFaultOfAsked, IsRefusal}
+use Rattle.bf_views.specs.ExplainFaults.{IsExplainFault, IsExplainFaultAt, IsRefusal}
+use Rattle.bf_views.specs.inner.ExplainFaults.{IsFaultOfAsked}
 use Rattle.bf_views.specs.Explanations.{IsExplainAnswer, IsExplanation, paths_asked}
-use Rattle.bf_views.specs.Planned.{IsPlanned, IsPlanningFault}
-use Rattle.bf_views.specs.Writing.{IsWritingFault}
+use Rattle.bf_views.specs.Planned.{IsPlanningFault}
+use Rattle.bf_views.specs.inner.Planned.{IsPlanned}
+use Rattle.bf_views.specs.inner.Writing.{IsWritingFault}
 
 -- a text that means no moment
 pub unmeant : (files : Files) (asked : ExplainAsked) (fault : CommandFault) → (fault ≡ BadMoment) × IsNoMoment (string_bytes asked.run) → IsExplainFault files asked fault

@@ -14,7 +14,8 @@ use Rattle.bf_command_fault.specs.declared.range.RangeFault.TheVariants.{Unliste
 use Rattle.bf_command_fault.specs.declared.status.Status.{Status}
 use Rattle.bf_disk.specs.Files.{AreReadable, Files}
 use Rattle.bf_grid.specs.Grid.{grid_text}
-use Rattle.bf_input.specs.Inputs.{IsReadOf, graph_paths}
+use Rattle.bf_input.specs.Inputs.{graph_paths}
+use Rattle.bf_input.specs.inner.Inputs.{IsReadOf}
 use Rattle.bf_views.specs.declared.bounds.Bounds.{Bounds}
 use Rattle.bf_views.specs.declared.canvas.Canvas.{Canvas}
 use Rattle.bf_views.specs.declared.planned.Planned.{Planned}
@@ -22,9 +23,9 @@ use Rattle.bf_views.specs.Bounds.{HasNoBound, MeansBounds, is_reversed_in}
 use Rattle.bf_views.specs.GridFaults.{IsGridFault, IsGridFaultIn}
 use Rattle.bf_views.specs.Grids.{IsGridAnswer, view_asked}
 use Rattle.bf_views.specs.Matching.{is_of_graph}
-use Rattle.bf_views.specs.Planned.{IsPlanned}
+use Rattle.bf_views.specs.inner.Planned.{IsPlanned}
 use Rattle.bf_views.specs.Reported.{IsReportedFault}
-use Rattle.bf_views.specs.Writing.{IsWritingFault}
+use Rattle.bf_views.specs.inner.Writing.{IsWritingFault}
 
 -- ---- moments
 

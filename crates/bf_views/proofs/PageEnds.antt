@@ -14,16 +14,19 @@ use Rattle.bf_command_fault.specs.declared.fault.CommandFault.{CommandFault}
 use Rattle.bf_command_fault.specs.declared.fault.CommandFault.TheVariants.{CannotRead, CannotWrite, Check, Clear, Journal, OutOfMemory, Read, Report as BadReport}
 use Rattle.bf_command_fault.specs.declared.status.Status.{Status}
 use Rattle.bf_disk.specs.Files.{AreReadable, Files, IsHeldIfNamed, named_paths}
-use Rattle.bf_input.specs.Inputs.{IsReadOf, IsReportFault, graph_paths}
+use Rattle.bf_input.specs.Inputs.{IsReportFault, graph_paths}
+use Rattle.bf_input.specs.inner.Inputs.{IsReadOf}
 use Rattle.bf_page.specs.Page.{EndsAt}
 use Rattle.bf_views.specs.declared.planned.Planned.{Planned}
 use Rattle.bf_views.specs.Matching.{intervals_in, is_of_graph}
 use Rattle.bf_views.specs.PageFaults.{IsPageFault}
 use Rattle.bf_views.specs.Pages.{IsPage, IsPageAnswer, journal_path, words_asked}
-use Rattle.bf_views.specs.Planned.{IsPlanned, IsPlanningFault}
-use Rattle.bf_views.specs.Refused.{IsRefusedBy}
-use Rattle.bf_views.specs.Times.{AreTimesTold, IsJournalFault, IsNamedJournalFault}
-use Rattle.bf_views.specs.Writing.{IsWritingFault}
+use Rattle.bf_views.specs.Planned.{IsPlanningFault}
+use Rattle.bf_views.specs.inner.Planned.{IsPlanned}
+use Rattle.bf_views.specs.inner.Refused.{IsRefusedBy}
+use Rattle.bf_views.specs.Times.{AreTimesTold, IsJournalFault}
+use Rattle.bf_views.specs.inner.Times.{IsNamedJournalFault}
+use Rattle.bf_views.specs.inner.Writing.{IsWritingFault}
 use Rattle.bf_views.proofs.ReportedEnds.{refusal_fault}
 
 -- ---- a command that passes a fault up

@@ -8,13 +8,15 @@ use Rattle.bf_command_fault.specs.Refusal.{Leaves}
 use Rattle.bf_command_fault.specs.declared.fault.CommandFault.{CommandFault}
 use Rattle.bf_command_fault.specs.declared.fault.CommandFault.TheVariants.{CannotRead, CannotWrite, Check, Clear, OutOfMemory, Read, Report as BadReport}
 use Rattle.bf_disk.specs.Files.{AreReadable, Files}
-use Rattle.bf_input.specs.Inputs.{IsReadOf, IsReportFault, graph_paths}
+use Rattle.bf_input.specs.Inputs.{IsReportFault, graph_paths}
+use Rattle.bf_input.specs.inner.Inputs.{IsReadOf}
 use Rattle.bf_views.specs.declared.planned.Planned.{Planned}
 use Rattle.bf_views.specs.Matching.{is_of_graph}
-use Rattle.bf_views.specs.Planned.{IsPlanned, IsPlanningFault}
-use Rattle.bf_views.specs.Refused.{IsRefusedBy}
+use Rattle.bf_views.specs.Planned.{IsPlanningFault}
+use Rattle.bf_views.specs.inner.Planned.{IsPlanned}
+use Rattle.bf_views.specs.inner.Refused.{IsRefusedBy}
 use Rattle.bf_views.specs.Reported.{IsReportedFault}
-use Rattle.bf_views.specs.Writing.{IsWritingFault}
+use Rattle.bf_views.specs.inner.Writing.{IsWritingFault}
 
 -- a fault that isn't of the device leaves nothing of the text
 pub unwritten_leaves : (Halted : Type 0) (IsDue : List ℕ → Type 0) (before : Option (List ℕ)) (Is : CommandFault → Type 0) → ((n : ℕ) → Is (CannotWrite n) → ⊥)

@@ -3,28 +3,17 @@ use Rattle.std.specs.Prelude.{◌≡◌, ℤ, List, ℕ, Option, Some, string_by
 use Rattle.jiff.specs.declared.timestamp.Timestamp.{Timestamp}
 use Rattle.bf_read.specs.declared.draft.Draft.{Draft}
 use Rattle.bf_check.specs.Checking.{dag_of}
-use Rattle.bf_plan.specs.declared.plan.Dag.{Dag}
 use Rattle.bf_report.specs.declared.report.Report.{Report}
 use Rattle.bf_report_reader.specs.Reading.{IsReadAs}
-use Rattle.bf_dependents.specs.declared.fault.ClearFault.{ClearFault}
 use Rattle.bf_command_line.specs.declared.forms.ExplainAsked.{ExplainAsked}
 use Rattle.bf_command_line.specs.declared.forms.TaskAsked.{TaskAsked}
 use Rattle.bf_command_fault.specs.declared.fault.CommandFault.{CommandFault}
-use Rattle.bf_command_fault.specs.declared.fault.CommandFault.TheVariants.{BadMoment, Clear, OutOfMemory, UnknownIndex}
+use Rattle.bf_command_fault.specs.declared.fault.CommandFault.TheVariants.{BadMoment, Clear, UnknownIndex}
 use Rattle.bf_disk.specs.Files.{Files}
 use Rattle.bf_input.specs.Moments.{IsNoMoment, Means}
 use Rattle.bf_planning.specs.Graphs.{IsGraph}
 use Rattle.bf_views.specs.Asked.{asked_fault}
 use Rattle.bf_views.specs.Reported.{AreReportedReadable, IsReportedFault, OfReported}
-
--- why what is asked isn't explained; or memory is wanting
-abbrev pub IsFaultOfAsked : Dag → Report → ℤ → Option TaskAsked → CommandFault → Type 0
-IsFaultOfAsked dag report start task OutOfMemory = Unit {0}
-IsFaultOfAsked dag report start task (Clear fault) =
-    asked_fault dag report start task ≡ Some (Clear fault)
-IsFaultOfAsked dag report start task UnknownIndex =
-    asked_fault dag report start task ≡ Some UnknownIndex
-IsFaultOfAsked dag report start task _ = ⊥
 
 -- the bytes say a graph without a fault and a report, and this is the first fault of what is asked of them
 pub record IsRefusedFor (fault : CommandFault) (start : ℤ) (task : Option TaskAsked)

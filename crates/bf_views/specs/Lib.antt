@@ -1,11 +1,9 @@
 pub mod Matching
-pub mod Refused
 pub mod Planned
 pub mod Reported
 pub mod Times
 pub mod Pages
 pub mod PageFaults
-pub mod Writing
 pub mod Json
 pub mod Tables
 pub mod Canvases
@@ -15,3 +13,4 @@ pub mod GridFaults
 pub mod Asked
 pub mod Explanations
 pub mod ExplainFaults
+pub mod inner

@@ -1,18 +1,10 @@
 -- The plan of a line's graph file.
-use Rattle.std.specs.Prelude.{◌≡◌}
 use Rattle.bf_command_line.specs.declared.forms.GraphAsked.{GraphAsked}
 use Rattle.bf_command_fault.specs.declared.fault.CommandFault.{CommandFault}
 use Rattle.bf_command_fault.specs.declared.fault.CommandFault.TheVariants.{CannotRead, Check, OutOfMemory, Read}
 use Rattle.bf_disk.specs.Files.{AreReadable, Files, IsFirstUntold}
 use Rattle.bf_input.specs.Inputs.{OfFiles, graph_paths}
-use Rattle.bf_planning.specs.Graphs.{IsFaultIn, IsPlanOf}
-use Rattle.bf_views.specs.declared.planned.Planned.{Planned}
-
--- the bytes of the graph file, and the plan that they say
-abbrev pub IsPlanned : Files → GraphAsked → Planned → Type 0
-IsPlanned files asked planned =
-    OfFiles files asked (λ graph zone. (planned.graph.items ≡ graph)
-    × IsPlanOf graph zone planned.plan)
+use Rattle.bf_planning.specs.Graphs.{IsFaultIn}
 
 -- the first fault of the files and of the graph; or memory is wanting
 abbrev pub IsPlanningFault : Files → GraphAsked → CommandFault → Type 0

@@ -3,8 +3,7 @@ use Rattle.std.specs.Prelude.{◌≡◌, ℕ, List, [], Option, None, Some}
 use Rattle.bf_plan.specs.declared.plan.Dag.{Dag}
 use Rattle.bf_interval.specs.declared.interval.Interval.{Interval}
 use Rattle.bf_command_fault.specs.declared.fault.CommandFault.{CommandFault}
-use Rattle.bf_command_fault.specs.declared.fault.CommandFault.TheVariants.{CannotRead, Journal, OutOfMemory}
-use Rattle.bf_disk.specs.Files.{AreReadable, Files, IsFirstUntold, IsHeldIfNamed, named_paths}
+use Rattle.bf_command_fault.specs.declared.fault.CommandFault.TheVariants.{Journal, OutOfMemory}
 use Rattle.bf_times.specs.Times.{AreTimesOf, IsTimesFault}
 
 -- the times of a journal where one is named, and else none
@@ -18,14 +17,3 @@ IsJournalFault dag intervals (Some journal) (Journal fault) =
     IsTimesFault dag intervals journal fault
 IsJournalFault dag intervals journal OutOfMemory = Unit {0}
 IsJournalFault dag intervals journal _ = ⊥
-
--- the same of the one that is named, or it can't be read
-abbrev pub IsNamedJournalFault : Files → Option (List ℕ) → Dag → List Interval → CommandFault
-    → Type 0
-IsNamedJournalFault files path dag intervals OutOfMemory = Unit {0}
-IsNamedJournalFault files path dag intervals (CannotRead p) =
-    IsFirstUntold files (named_paths path) p
-IsNamedJournalFault files path dag intervals (Journal fault) = AreReadable files (named_paths path)
-    × ((journal : Option (List ℕ)) → IsHeldIfNamed files path journal
-    → IsJournalFault dag intervals journal (Journal fault))
-IsNamedJournalFault files path dag intervals _ = ⊥

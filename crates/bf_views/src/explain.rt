@@ -5,7 +5,8 @@ ghost use Rattle.bf_command_fault.specs.declared.status.Status.{Status};
 ghost use Rattle.bf_device.specs.Device.{HasHalted, sent};
 ghost use Rattle.bf_report_reader.specs.Rules.{IsShownReport};
 ghost use Rattle.bf_views.specs.Asked.{run_number, task_number};
-ghost use Rattle.bf_views.specs.ExplainFaults.{IsExplainFault, IsFaultOfAsked};
+ghost use Rattle.bf_views.specs.ExplainFaults.{IsExplainFault};
+ghost use Rattle.bf_views.specs.inner.ExplainFaults.{IsFaultOfAsked};
 ghost use Rattle.bf_views.specs.Explanations.{IsExplainAnswer, IsExplanation, paths_asked};
 ghost use Rattle.bf_views.specs.Matching.{is_of_graph};
 

@@ -2,7 +2,7 @@
 ghost use Rattle.std.specs.Prelude.{◌≡◌, true, false, IfOk, IfErr, OnOk};
 ghost use Rattle.bf_dependents.specs.declared.fault.ClearFault.{ClearFault};
 ghost use Rattle.bf_views.specs.Matching.{intervals_in, is_of_graph};
-ghost use Rattle.bf_views.specs.Refused.{IsRefusedBy};
+ghost use Rattle.bf_views.specs.inner.Refused.{IsRefusedBy};
 
 use bf_clear::is_report_of;
 use bf_command_fault::CommandFault;

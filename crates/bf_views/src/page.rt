@@ -7,7 +7,7 @@ ghost use Rattle.bf_report_reader.specs.Rules.{IsShownReport};
 ghost use Rattle.bf_views.specs.Matching.{is_of_graph};
 ghost use Rattle.bf_views.specs.PageFaults.{IsPageFault};
 ghost use Rattle.bf_views.specs.Pages.{IsPage, IsPageAnswer, report_shown, words_asked};
-ghost use Rattle.bf_views.specs.Writing.{IsWritingFault};
+ghost use Rattle.bf_views.specs.inner.Writing.{IsWritingFault};
 
 use crate::matching::refuse_other_graph;
 use crate::planned::{Planned, read_plan};

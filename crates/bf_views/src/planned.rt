@@ -2,7 +2,8 @@
 ghost use Rattle.std.specs.Prelude.{◌≡◌, ℕ, List, IfOk, IfErr, OnOk};
 ghost use Rattle.bf_disk.specs.Files.{AreReadable};
 ghost use Rattle.bf_input.specs.Inputs.{graph_paths};
-ghost use Rattle.bf_views.specs.Planned.{IsPlanned, IsPlanningFault};
+ghost use Rattle.bf_views.specs.Planned.{IsPlanningFault};
+ghost use Rattle.bf_views.specs.inner.Planned.{IsPlanned};
 
 use bf_command_fault::CommandFault;
 use bf_command_line::GraphAsked;

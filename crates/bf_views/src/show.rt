@@ -6,7 +6,7 @@ ghost use Rattle.bf_device.specs.Device.{HasHalted, sent};
 ghost use Rattle.bf_grid.specs.Grid.{grid_text};
 ghost use Rattle.bf_views.specs.GridFaults.{IsGridFault};
 ghost use Rattle.bf_views.specs.Grids.{IsGridAnswer, is_colored_in, view_asked};
-ghost use Rattle.bf_views.specs.Writing.{IsWritingFault};
+ghost use Rattle.bf_views.specs.inner.Writing.{IsWritingFault};
 
 use crate::bounds::Bounds;
 use crate::canvas::Canvas;

@@ -3,7 +3,8 @@ ghost use Rattle.std.specs.Prelude.{◌≡◌, List, Option, ℕ, IfOk, IfErr, O
 ghost use Rattle.bf_disk.specs.Files.{AreReadable, IsHeldIfNamed, named_paths};
 ghost use Rattle.bf_report_reader.specs.Rules.{IsShownReport};
 ghost use Rattle.bf_views.specs.Matching.{intervals_in};
-ghost use Rattle.bf_views.specs.Times.{AreTimesTold, IsJournalFault, IsNamedJournalFault};
+ghost use Rattle.bf_views.specs.Times.{AreTimesTold, IsJournalFault};
+ghost use Rattle.bf_views.specs.inner.Times.{IsNamedJournalFault};
 
 use crate::matching::intervals_of;
 use bf_command_fault::CommandFault;

@@ -16,7 +16,8 @@ use Rattle.bf_core.proofs.Numbers.{below_or}
 use Rattle.bf_waiting.specs.declared.batches.Batch.{Batch}
 use Rattle.bf_waiting.specs.declared.delays.Delay.{Delay}
 use Rattle.bf_waiting.specs.Classes.{HasBatch, HasRoom, Waits, delay_of}
-use Rattle.bf_waiting.specs.Keeping.{IsLive, KeepsOver, KeepsWaiting}
+use Rattle.bf_waiting.specs.Keeping.{IsLive, KeepsWaiting}
+use Rattle.bf_waiting.specs.inner.Keeping.{KeepsOver}
 use Rattle.bf_waiting.specs.Kept.{AreKept, IsClassOf}
 use Rattle.bf_waiting.proofs.Holding.{untouched}
 use Rattle.bf_waiting.proofs.Moving.{IsOfTask, same?}

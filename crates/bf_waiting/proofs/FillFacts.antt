@@ -6,8 +6,9 @@ use Rattle.bf_waiting.specs.declared.batches.Batch.{Batch}
 use Rattle.bf_waiting.specs.declared.delays.Delay.{Delay}
 use Rattle.bf_waiting.specs.declared.waiting.Waiting.{Waiting}
 use Rattle.bf_waiting.specs.Classes.{HasBatch, Waits, delay_of}
-use Rattle.bf_waiting.specs.Filling.{AreFilled, IsLater, KeepsEarlier}
-use Rattle.bf_waiting.specs.Keeping.{Anywhere, HasDelayed, HasTakenUp, IsCleaned, IsLive, KeepsWaiting}
+use Rattle.bf_waiting.specs.inner.Filling.{AreFilled, IsLater, KeepsEarlier}
+use Rattle.bf_waiting.specs.Keeping.{IsCleaned, IsLive, KeepsWaiting}
+use Rattle.bf_waiting.specs.inner.Keeping.{Anywhere, HasDelayed, HasTakenUp}
 use Rattle.bf_waiting.specs.Kept.{AreKept}
 use Rattle.bf_waiting.specs.Standings.{IsDelayedAt, IsReadyAt}
 use Rattle.bf_waiting.proofs.Each.{reclassed, set_cases}

@@ -9,8 +9,9 @@ use Rattle.std.proofs.lemmas.List.Sorted.{Contains-permutation, IsPermutation-sy
 use Rattle.bf_core.proofs.Members.{contains_first, contains_rest, contains_cases}
 use Rattle.bf_waiting.specs.declared.batches.Batch.{Batch}
 use Rattle.bf_waiting.specs.declared.delays.Delay.{Delay}
-use Rattle.bf_waiting.specs.Classes.{AreReleased, batch_of}
-use Rattle.bf_waiting.specs.Heaps.{Leads, batch_cmp, delay_cmp}
+use Rattle.bf_waiting.specs.inner.Classes.{AreReleased, batch_of}
+use Rattle.bf_waiting.specs.Heaps.{batch_cmp, delay_cmp}
+use Rattle.bf_waiting.specs.inner.Heaps.{Leads}
 
 -- new holds what old holds, and x
 pub record HasGained {X : Type 0} (old : List X) (x : X) (new : List X) : Type 0 where

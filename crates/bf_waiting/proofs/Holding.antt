@@ -9,8 +9,10 @@ use Rattle.bf_core.specs.Cores.{Backfill, IsReplay, MayCome, deciding, moved}
 use Rattle.bf_core.specs.Events.{place_in}
 use Rattle.bf_waiting.specs.declared.batches.Batch.{Batch}
 use Rattle.bf_waiting.specs.declared.delays.Delay.{Delay}
-use Rattle.bf_waiting.specs.Classes.{AreReleased, HasBatch, Waits, batch_of, delay_of}
-use Rattle.bf_waiting.specs.Keeping.{Anywhere, At, HasDelayed, HasTakenUp, HoldsWaiting, IsCleaned, IsOfClass, IsOfPlace, KeepsOver, KeepsWaiting}
+use Rattle.bf_waiting.specs.Classes.{HasBatch, Waits, delay_of}
+use Rattle.bf_waiting.specs.inner.Classes.{AreReleased, batch_of}
+use Rattle.bf_waiting.specs.Keeping.{HoldsWaiting, IsCleaned, IsOfClass, KeepsWaiting}
+use Rattle.bf_waiting.specs.inner.Keeping.{Anywhere, At, HasDelayed, HasTakenUp, IsOfPlace, KeepsOver}
 use Rattle.bf_waiting.specs.Standings.{IsDelayedAt, IsReadyAt}
 use Rattle.bf_waiting.proofs.HeapFacts.{top_in}
 use Rattle.bf_waiting.proofs.Moving.{BringsDelayed, BringsReady, IsOfTask, delayed_later, delayed_of, newly_delayed, newly_ready, ready_elsewhere, ready_of, stays_delayed}

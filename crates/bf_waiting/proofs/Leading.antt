@@ -4,8 +4,8 @@ use Rattle.bf_core.specs.Cores.{Backfill}
 use Rattle.bf_core.proofs.Numbers.{below_or}
 use Rattle.bf_waiting.specs.declared.batches.Batch.{Batch}
 use Rattle.bf_waiting.specs.Classes.{Waits}
-use Rattle.bf_waiting.specs.Heaps.{Leads, StandsFirst}
-use Rattle.bf_waiting.specs.Looks.{IsBestTo, IsLeading, LeadsAny, MayTake}
+use Rattle.bf_waiting.specs.inner.Heaps.{Leads, StandsFirst}
+use Rattle.bf_waiting.specs.inner.Looks.{IsBestTo, IsLeading, LeadsAny, MayTake}
 
 stands_over : (x y z : Batch) → StandsFirst x y → StandsFirst y z → StandsFirst x z
 stands_over x y z p q = elim p [

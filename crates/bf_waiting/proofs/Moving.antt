@@ -6,7 +6,8 @@ use Rattle.std.specs.FinMap as map
 use Rattle.std.specs.Ordering.{eq_by_cmp}
 use Rattle.std.proofs.lemmas.Int.{by_lt_z, ints}
 use Rattle.bf_value.specs.declared.name.JobName.{JobName}
-use Rattle.bf_value.specs.Names.{name_cmp, name_cmp_total}
+use Rattle.bf_value.specs.Names.{name_cmp}
+use Rattle.bf_value.specs.inner.Names.{name_cmp_total}
 use Rattle.bf_plan.specs.declared.plan.Dag.{Dag}
 use Rattle.bf_plan.specs.Plans.{task_of}
 use Rattle.bf_try.specs.declared.ledger.Entry.{Entry}

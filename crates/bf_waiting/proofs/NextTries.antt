@@ -19,10 +19,10 @@ use Rattle.bf_waiting.specs.declared.batches.Batch.{Batch}
 use Rattle.bf_waiting.specs.declared.delays.Delay.{Delay}
 use Rattle.bf_waiting.specs.Choices.{IsFirstTry, IsNextMoment, IsNextTry, IsPreferred, NoTry}
 use Rattle.bf_waiting.specs.Classes.{Covers, HasBatch, Waits, delay_of}
-use Rattle.bf_waiting.specs.Heaps.{Leads}
+use Rattle.bf_waiting.specs.inner.Heaps.{Leads}
 use Rattle.bf_waiting.specs.Keeping.{IsOfClass}
 use Rattle.bf_waiting.specs.Kept.{AreKept, IsClassOf}
-use Rattle.bf_waiting.specs.Looks.{IsBestOf, IsSoonestOf, IsTryOfBatch, MayTake}
+use Rattle.bf_waiting.specs.inner.Looks.{IsBestOf, IsSoonestOf, IsTryOfBatch, MayTake}
 use Rattle.bf_waiting.specs.Standings.{IsDelayedAt, IsReadyAt}
 use Rattle.bf_waiting.proofs.HeapFacts.{top_in}
 use Rattle.bf_waiting.proofs.Leading.{none_top}

@@ -5,7 +5,7 @@ use Rattle.bf_core.specs.declared.state.Cell.{Cell}
 use Rattle.bf_core.specs.declared.state.Instance.{Instance}
 use Rattle.bf_core.specs.declared.state.Run.{Run}
 use Rattle.bf_core.specs.declared.state.State.{State}
-use Rattle.bf_core.specs.Checks.{HasRows}
+use Rattle.bf_core.specs.inner.Checks.{HasRows}
 use Rattle.bf_core.specs.Cores.{Backfill, IsReplay, IsThere}
 use Rattle.bf_core.specs.Events.{cell_at, cell_in, instance_of, no_run}
 use Rattle.bf_core.proofs.Kept.{replay_rows}

@@ -4,7 +4,8 @@ use Rattle.std.proofs.lemmas.Int.{ints, clamps, by_lt_z}
 use Rattle.std.specs.Int.{int_min}
 use Rattle.bf_waiting.specs.declared.delays.Delay.{Delay}
 use Rattle.bf_waiting.specs.Classes.{Waits}
-use Rattle.bf_waiting.specs.Looks.{IsSoonestTo, earlier_moment_of}
+use Rattle.bf_waiting.specs.Looks.{earlier_moment_of}
+use Rattle.bf_waiting.specs.inner.Looks.{IsSoonestTo}
 use Rattle.bf_core.proofs.Numbers.{below_or}
 
 no_item : (d : Delay) (xs : List Delay) → xs ≡ [] → Contains xs d → ⊥

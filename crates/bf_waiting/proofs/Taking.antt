@@ -9,10 +9,12 @@ use Rattle.bf_core.specs.Events.{cell_at, instance_of}
 use Rattle.bf_core.proofs.Numbers.{below_or}
 use Rattle.bf_waiting.specs.declared.batches.Batch.{Batch}
 use Rattle.bf_waiting.specs.declared.delays.Delay.{Delay}
-use Rattle.bf_waiting.specs.Classes.{batch_of, batch_to, delay_of}
-use Rattle.bf_waiting.specs.Filling.{Before}
-use Rattle.bf_waiting.specs.Keeping.{Anywhere, At, HasDelayed, HasTakenUp}
-use Rattle.bf_waiting.specs.Standings.{IsDelayedAt, IsReadyAt, Stands, instances_of}
+use Rattle.bf_waiting.specs.Classes.{delay_of}
+use Rattle.bf_waiting.specs.inner.Classes.{batch_of, batch_to}
+use Rattle.bf_waiting.specs.inner.Filling.{Before}
+use Rattle.bf_waiting.specs.inner.Keeping.{Anywhere, At, HasDelayed, HasTakenUp}
+use Rattle.bf_waiting.specs.Standings.{IsDelayedAt, IsReadyAt, instances_of}
+use Rattle.bf_waiting.specs.inner.Standings.{Stands}
 use Rattle.bf_waiting.specs.declared.instances.Standing.{Standing}
 use Rattle.bf_waiting.proofs.HeapFacts.{HasGained, gained}
 

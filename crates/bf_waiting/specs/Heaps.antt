@@ -1,5 +1,5 @@
 -- What waits, in heaps: which of it is at hand, and what they hold after one more or one fewer.
-use Rattle.std.specs.Prelude.{◌≡◌, ◌⊎◌, ℕ, ◌<◌, ◌≤◌, List}
+use Rattle.std.specs.Prelude.{ℕ, List}
 use Rattle.std.specs.Ordering.{nat_cmp, int_cmp, then_cmp, on}
 use Rattle.std.specs.declared.cmp.Ordering.{Ordering}
 use Rattle.std.specs.declared.cmp.Reverse.{Reverse}
@@ -10,18 +10,6 @@ use Rattle.bf_waiting.specs.declared.delays.Delay.{Delay}
 pub record Heap (X : Type 0) : Type 0 where
   pub items : List X
   pub room : ℕ
-
--- in the order of runs, of the file and of map indices
-abbrev pub StandsFirst : Batch → Batch → Type 0
-StandsFirst batch other =
-    (batch.run.0 < other.run.0) ⊎ ((batch.run.0 ≡ other.run.0)
-    × ((batch.task.0 < other.task.0)
-    ⊎ ((batch.task.0 ≡ other.task.0) × (batch.first.0 ≤ other.first.0))))
-
--- the batch begins before the other, or as it does
-abbrev pub Leads : Batch → Batch → Type 0
-Leads batch other =
-    (other.weight < batch.weight) ⊎ ((other.weight ≡ batch.weight) × StandsFirst batch other)
 
 abbrev pub later_cmp : Reverse ℕ → Reverse ℕ → Ordering
 later_cmp one other = nat_cmp other.0 one.0

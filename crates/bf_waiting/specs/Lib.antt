@@ -5,4 +5,4 @@ pub mod Classes
 pub mod Keeping
 pub mod Kept
 pub mod Looks
-pub mod Filling
+pub mod inner

@@ -9,7 +9,6 @@ use Rattle.bf_core.specs.declared.state.Phase.{Phase}
 use Rattle.bf_core.specs.Clocks.{IsTimely}
 use Rattle.bf_core.specs.Cores.{Backfill}
 use Rattle.bf_core.specs.Events.{cell_at, instance_of}
-use Rattle.bf_waiting.specs.declared.instances.Standing.{Standing}
 
 -- the instances of a cell
 abbrev pub instances_of : Cell → List Instance
@@ -32,15 +31,3 @@ pub record IsDelayedAt (backfill : Backfill) (run task place : ℕ) (moment : �
   pub is_moment : map.get backfill.clock.moments (name_of backfill.dag run task place held.attempt)
       ≡ Some moment
   pub is_later : backfill.clock.time <ℤ moment
-
--- so the instance stands
-abbrev pub Stands : Backfill → ℕ → ℕ → ℕ → Standing → Type 0
-Stands backfill run task place Standing.Away =
-    ¬ (IsReadyAt backfill run task place)
-    × ((moment : ℤ) → ¬ (IsDelayedAt backfill run task place moment))
-Stands backfill run task place Standing.Ready =
-    IsReadyAt backfill run task place
-    × ((moment : ℤ) → ¬ (IsDelayedAt backfill run task place moment))
-Stands backfill run task place (Standing.Delayed moment) =
-    ¬ (IsReadyAt backfill run task place) × IsDelayedAt backfill run task place moment
-    × ((other : ℤ) → IsDelayedAt backfill run task place other → other ≡ moment)

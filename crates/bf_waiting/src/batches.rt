@@ -1,7 +1,7 @@
 //! Instances that wait for room in a pool, those that begin first at hand.
 ghost use Rattle.std.specs.Prelude.{◌≡◌, ◌≤◌, ◌+◌, [], ◌∷◌, length, slice_get, Contains, IfSome, IfNone, OnOk, OnSome};
 ghost use Rattle.std.specs.List.Sorted.{IsPermutation};
-ghost use Rattle.bf_waiting.specs.Heaps.{Leads};
+ghost use Rattle.bf_waiting.specs.inner.Heaps.{Leads};
 ghost use Rattle.bf_waiting.specs.declared.batches.Batch.{Batch};
 
 use bf_value::OutOfMemory;

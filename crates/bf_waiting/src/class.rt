@@ -5,11 +5,13 @@ ghost use Rattle.bf_value.specs.declared.name.JobName.{JobName};
 ghost use Rattle.bf_xcom.specs.declared.values.Outcome.{Outcome};
 ghost use Rattle.bf_core.specs.Cores.{deciding};
 ghost use Rattle.bf_core.specs.declared.event.Event.{Event};
-ghost use Rattle.bf_waiting.specs.Classes.{AreReleased, HasRoom, IsRoomy, batch_of, batch_to};
-ghost use Rattle.bf_waiting.specs.Heaps.{Leads};
-ghost use Rattle.bf_waiting.specs.Keeping.{Anywhere, At, HasDelayed, HasTakenUp, IsCleaned, IsOfPlace, KeepsOver};
+ghost use Rattle.bf_waiting.specs.Classes.{HasRoom, IsRoomy};
+ghost use Rattle.bf_waiting.specs.inner.Classes.{AreReleased, batch_of, batch_to};
+ghost use Rattle.bf_waiting.specs.inner.Heaps.{Leads};
+ghost use Rattle.bf_waiting.specs.Keeping.{IsCleaned};
+ghost use Rattle.bf_waiting.specs.inner.Keeping.{Anywhere, At, HasDelayed, HasTakenUp, IsOfPlace, KeepsOver};
 ghost use Rattle.bf_waiting.specs.Standings.{IsReadyAt};
-ghost use Rattle.bf_waiting.specs.Filling.{TakesIn};
+ghost use Rattle.bf_waiting.specs.inner.Filling.{TakesIn};
 ghost use Rattle.bf_waiting.specs.declared.batches.Batch.{Batch};
 ghost use Rattle.bf_waiting.specs.declared.delays.Delay.{Delay};
 

@@ -2,7 +2,8 @@
 ghost use Rattle.std.specs.Prelude.{◌≡◌, ◌<◌, ◌≤◌, ◌↔◌, IsTrue, length, Some};
 ghost use Rattle.bf_core.specs.Events.{cell_at, instance_of};
 ghost use Rattle.bf_core.specs.Few.{IsFew};
-ghost use Rattle.bf_waiting.specs.Standings.{instances_of, IsReadyAt, Stands};
+ghost use Rattle.bf_waiting.specs.Standings.{instances_of, IsReadyAt};
+ghost use Rattle.bf_waiting.specs.inner.Standings.{Stands};
 
 use bf_core::{Cell, Core, Instance, Phase, name_of};
 

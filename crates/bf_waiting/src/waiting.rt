@@ -6,12 +6,13 @@ ghost use Rattle.bf_xcom.specs.declared.values.Outcome.{Outcome};
 ghost use Rattle.bf_core.specs.declared.event.Event.{Event};
 ghost use Rattle.bf_core.specs.Cores.{Backfill, deciding};
 ghost use Rattle.bf_core.specs.Events.{has_room_in};
-ghost use Rattle.bf_waiting.specs.Keeping.{IsOfPlace};
+ghost use Rattle.bf_waiting.specs.inner.Keeping.{IsOfPlace};
 ghost use Rattle.bf_waiting.specs.Kept.{HasRoomFor, HasRoomOf, KeepsTries, KeepsTriesOver, IsClassOf};
 ghost use Rattle.bf_waiting.specs.Choices.{AreWeights, IsNextMoment, IsNextTry};
-ghost use Rattle.bf_waiting.specs.Filling.{AreClassedTo, AreEmpty, AreFilled};
-ghost use Rattle.bf_waiting.specs.Heaps.{Leads};
-ghost use Rattle.bf_waiting.specs.Looks.{IsBestOf, IsLeading, IsSoonestOf, IsTryOfBatch, MayTake, earlier_moment_of};
+ghost use Rattle.bf_waiting.specs.inner.Filling.{AreClassedTo, AreEmpty, AreFilled};
+ghost use Rattle.bf_waiting.specs.inner.Heaps.{Leads};
+ghost use Rattle.bf_waiting.specs.Looks.{earlier_moment_of};
+ghost use Rattle.bf_waiting.specs.inner.Looks.{IsBestOf, IsLeading, IsSoonestOf, IsTryOfBatch, MayTake};
 ghost use Rattle.bf_waiting.specs.declared.waiting.Waiting.{Waiting};
 ghost use Rattle.bf_waiting.specs.declared.batches.Batch.{Batch};
 

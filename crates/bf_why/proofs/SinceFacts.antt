@@ -4,7 +4,7 @@ use Rattle.bf_core.specs.Terms.{Dag}
 use Rattle.bf_report.specs.declared.report.TaskReport.{TaskReport}
 use Rattle.bf_why.specs.declared.since.Ground.{Ground}
 use Rattle.bf_why.specs.declared.states.States.{States}
-use Rattle.bf_why.specs.Grounds.{IsGround}
+use Rattle.bf_why.specs.inner.Grounds.{IsGround}
 use Rattle.bf_why.specs.Since.{Since, because_of_states, since_text_of, words}
 
 module _ (dag : Dag) (tasks : List TaskReport) (task : ℕ) where

@@ -1,6 +1,6 @@
 pub mod Counted
 pub mod Since
-pub mod Grounds
 pub mod Decided
 pub mod Tried
 pub mod Why
+pub mod inner

@@ -2,7 +2,7 @@
 ghost use Rattle.std.specs.Prelude.{◌≡◌, ◌<◌, ◌++◌, IfOk, OnOk, Some, length, option_map};
 ghost use Rattle.std.specs.List.{flat_map};
 ghost use Rattle.bf_core.specs.Terms.{task_of};
-ghost use Rattle.bf_why.specs.Grounds.{IsGround};
+ghost use Rattle.bf_why.specs.inner.Grounds.{IsGround};
 ghost use Rattle.bf_why.specs.Since.{because_of_states, name_where, rule_text_of, shared, since, since_text_of, verdict_text_of, with_share};
 
 use crate::looking::id_at;

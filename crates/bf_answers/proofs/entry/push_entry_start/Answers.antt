@@ -4,7 +4,7 @@ use Rattle.json.specs.Print.{quoted}
 use Rattle.serde_json.specs.Find.{of_integer}
 use Rattle.serde_json.specs.Written.{members_text, number_text}
 use Rattle.std.proofs.Common.{true}
-use Rattle.bf_answers.specs.Answers.{number_of}
+use Rattle.bf_answers.specs.inner.Answers.{number_of}
 use Rattle.bf_answers.proofs.Texts.{named_made}
 use Rattle.bf_answers.proofs.entry.push_entry_start.Goals as goal
 

@@ -1,7 +1,7 @@
 use Rattle.std.proofs.Common.{◌++◌, string_bytes, sym, ap, ◌∙◌}
 use Rattle.serde_json.specs.Find.{of_integer}
 use Rattle.serde_json.specs.Written.{number_text}
-use Rattle.bf_answers.specs.Answers.{number_of}
+use Rattle.bf_answers.specs.inner.Answers.{number_of}
 use Rattle.bf_answers.proofs.Texts.{minus_one}
 use Rattle.bf_answers.proofs.entry.push_index.Goals as goal
 

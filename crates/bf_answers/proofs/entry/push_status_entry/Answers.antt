@@ -1,8 +1,8 @@
 use Rattle.std.proofs.Common.{◌++◌, ◌∷◌, string_bytes, codes, decimal, sym, ap, ◌∙◌}
 use Rattle.serde_json.specs.Data.{object, number, unsigned, member, no_members}
 use Rattle.serde_json.specs.Written.{compact_text}
-use Rattle.bf_answers.specs.Answers.{number_of}
-use Rattle.bf_answers.specs.Pieces.{named_members}
+use Rattle.bf_answers.specs.inner.Answers.{number_of}
+use Rattle.bf_answers.specs.inner.Pieces.{named_members}
 use Rattle.bf_answers.specs.TableText.{optional}
 use Rattle.bf_answers.proofs.Texts.{status_made, status_there}
 use Rattle.bf_answers.proofs.entry.push_status_entry.Goals as goal

@@ -3,8 +3,8 @@ use Rattle.json.specs.Print.{quoted}
 use Rattle.serde_json.specs.Data.{object, string, member, no_members}
 use Rattle.serde_json.specs.Written.{compact_text}
 use Rattle.bf_value.specs.Json.{json_of}
-use Rattle.bf_answers.specs.Answers.{number_of}
-use Rattle.bf_answers.specs.Pieces.{named_members}
+use Rattle.bf_answers.specs.inner.Answers.{number_of}
+use Rattle.bf_answers.specs.inner.Pieces.{named_members}
 use Rattle.bf_answers.specs.TableText.{optional}
 use Rattle.bf_answers.proofs.Texts.{out_made}
 use Rattle.bf_answers.proofs.Ends.{out_there}

@@ -1,6 +1,7 @@
 use Rattle.std.proofs.Common.{◌++◌, ℕ, [], string_bytes, ap, ◌∙◌, arith}
 use Rattle.bf_table.specs.declared.table.TableEntry.{TableEntry}
-use Rattle.bf_answers.specs.Answers.{entry_at, number_of}
+use Rattle.bf_answers.specs.Answers.{entry_at}
+use Rattle.bf_answers.specs.inner.Answers.{number_of}
 use Rattle.bf_answers.specs.TableText.{entry_line}
 use Rattle.bf_answers.proofs.Texts.{try_more}
 use Rattle.bf_answers.proofs.table.push_retried.Goals as goal

@@ -1,5 +1,6 @@
 use Rattle.std.proofs.Common.{◌≡◌, ◌++◌, ◌-◌, ◌≤◌, string_bytes}
-use Rattle.bf_answers.specs.Answers.{number_of, retried_entries}
+use Rattle.bf_answers.specs.Answers.{retried_entries}
+use Rattle.bf_answers.specs.inner.Answers.{number_of}
 use Rattle.bf_answers.specs.TableText.{entry_lines}
 use Rattle.bf_answers.proofs.table.push_retried.Given as goal
 

@@ -1,7 +1,7 @@
 use Rattle.std.proofs.Common.{string_bytes, subst}
 use Rattle.bf_commands.proofs.Faults.{unwritten_leaves}
 use Rattle.bf_backfills.specs.Commands.{IsClearAnswer, IsLaunchable, clear_input, launcher_used_of, machine_of}
-use Rattle.bf_backfills.specs.CommandFaults.{IsFaultOfLauncher}
+use Rattle.bf_backfills.specs.inner.CommandFaults.{IsFaultOfLauncher}
 use Rattle.bf_backfills.proofs.ClearInputs.{named_preparing, named_readable, preparing_leaves, read_means}
 use Rattle.bf_backfills.proofs.ClearEnds.{clear_answers, clear_faults, clear_unlaunched, clear_unmeant, of_clearing, unmeant_leaves}
 use Rattle.bf_backfills.proofs.Exits.{fails, runs_leave, runs_send}

@@ -2,7 +2,7 @@ use Rattle.std.proofs.Common.{◌++◌, option_map, string_bytes, ◌∙◌}
 use Rattle.bf_disk.specs.Files.{named_paths}
 use Rattle.bf_input.specs.Inputs.{graph_paths}
 use Rattle.bf_planning.proofs.Results.{handed_on}
-use Rattle.bf_backfills.specs.Named.{path_of}
+use Rattle.bf_backfills.specs.inner.Named.{path_of}
 use Rattle.bf_backfills.proofs.ClearInputs.{held_stays, read_stays}
 use Rattle.bf_backfills.proofs.ReadFiles.{reading_before, reading_first, reading_then}
 use Rattle.bf_backfills.proofs.clear.read_clear_files.Goals as goal

@@ -1,7 +1,7 @@
 use Rattle.std.proofs.Common.{sym, subst}
 use Rattle.bf_planning.proofs.Results.{handed_on}
 use Rattle.bf_backfills.specs.Commands.{HasNoMoment}
-use Rattle.bf_backfills.specs.Named.{IsUnmeant}
+use Rattle.bf_backfills.specs.inner.Named.{IsUnmeant}
 use Rattle.bf_backfills.proofs.named.to_clear_asked.Goals as goal
 
 pub returns-in_err-seeds_of-in-Seeds-clause-bad : goal.returns-in_err-seeds_of-in-Seeds-clause-bad

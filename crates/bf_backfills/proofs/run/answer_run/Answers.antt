@@ -1,7 +1,7 @@
 use Rattle.std.proofs.Common.{option_map, string_bytes, subst}
 use Rattle.bf_input.specs.Inputs.{graph_paths}
 use Rattle.bf_backfills.specs.Commands.{IsLaunchable, IsRunAnswer, machine_of}
-use Rattle.bf_backfills.specs.CommandFaults.{IsFaultOfLauncher}
+use Rattle.bf_backfills.specs.inner.CommandFaults.{IsFaultOfLauncher}
 use Rattle.bf_backfills.proofs.CommandEnds.{read_graph, run_answer_by, run_files_by, run_memory, run_unlaunched, run_unread}
 use Rattle.bf_commands.proofs.Faults.{unwritten_leaves}
 use Rattle.bf_backfills.proofs.Exits.{fails, reading_fails, runs_leave, runs_send}

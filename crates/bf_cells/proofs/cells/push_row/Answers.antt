@@ -3,7 +3,7 @@ use Rattle.std.specs.List.{flat_map, filter_map, join_with_byte}
 use Rattle.bf_moment.specs.Moment.{moment_text}
 use Rattle.bf_report.specs.Report.{run_state_word_of}
 use Rattle.bf_cells.specs.Cells.{instances_word, letters_from}
-use Rattle.bf_cells.specs.Rows.{word_behind}
+use Rattle.bf_cells.specs.inner.Rows.{word_behind}
 use Rattle.bf_cells.proofs.RowFacts.{row_in_pieces}
 use Rattle.bf_cells.proofs.cells.push_row.Goals as goal
 

@@ -1,5 +1,5 @@
 use Rattle.std.proofs.Common.{◌≡◌, Some, take}
-use Rattle.bf_check.specs.Looks.{numbers_in}
+use Rattle.bf_check.specs.inner.Looks.{numbers_in}
 use Rattle.bf_check.proofs.edges.numbers_of.Given as goal
 
 abbrev pub invariant-loop-name : goal.invariant-loop-name

@@ -1,5 +1,5 @@
 use Rattle.std.proofs.Common.{◌≡◌, map, option_map, take}
-use Rattle.bf_check.specs.Looks.{numbers_in}
+use Rattle.bf_check.specs.inner.Looks.{numbers_in}
 use Rattle.bf_check.proofs.edges.numbers_of_upstreams.Given as goal
 
 abbrev pub invariant-loop-task : goal.invariant-loop-task

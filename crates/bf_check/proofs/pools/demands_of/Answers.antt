@@ -4,7 +4,7 @@ use Rattle.std.specs.List.{zip}
 use Rattle.bf_read.specs.declared.draft.TaskDraft.{TaskDraft}
 use Rattle.bf_plan.specs.declared.plan.Demand.{Demand}
 use Rattle.bf_check.specs.declared.pools.TaskPool.{TaskPool}
-use Rattle.bf_check.specs.Looks.{demand_from}
+use Rattle.bf_check.specs.inner.Looks.{demand_from}
 use Rattle.bf_check.proofs.ListLemmas.{zip_ended}
 use Rattle.bf_check.proofs.pools.demands_of.Goals as goal
 

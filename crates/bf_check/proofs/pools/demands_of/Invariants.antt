@@ -2,7 +2,7 @@ use Rattle.std.proofs.Common.{◌≡◌, ◌++◌, map}
 use Rattle.std.specs.List.{zip}
 use Rattle.bf_read.specs.declared.draft.TaskDraft.{TaskDraft}
 use Rattle.bf_check.specs.declared.pools.TaskPool.{TaskPool}
-use Rattle.bf_check.specs.Looks.{demand_from}
+use Rattle.bf_check.specs.inner.Looks.{demand_from}
 use Rattle.bf_check.proofs.pools.demands_of.Given as goal
 
 abbrev pub invariant-loop-task : goal.invariant-loop-task

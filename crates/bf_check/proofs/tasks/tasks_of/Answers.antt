@@ -9,7 +9,7 @@ use Rattle.bf_read.specs.declared.draft.TaskDraft.{TaskDraft}
 use Rattle.bf_plan.specs.declared.plan.Task.{Task}
 use Rattle.bf_check.specs.declared.pulls.Pulls.{Pulls}
 use Rattle.bf_check.specs.Checking.{ids_of, task_in}
-use Rattle.bf_check.specs.Looks.{pulls_in}
+use Rattle.bf_check.specs.inner.Looks.{pulls_in}
 use Rattle.bf_check.proofs.ListLemmas.{map_then, pair_at, zip_ended}
 use Rattle.bf_check.proofs.TaskLemmas.{comes_next, has_links, links_are, pulls_found}
 use Rattle.bf_check.proofs.tasks.tasks_of.Goals as goal

@@ -3,7 +3,8 @@ use Rattle.std.specs.List.{position}
 use Rattle.std.specs.Str.{bytes_eq}
 use Rattle.bf_interval.specs.declared.interval.Interval.{Interval}
 use Rattle.bf_core.specs.Terms.{Dag, Task}
-use Rattle.bf_clear.specs.Aligning.{AreAligned, AreApart}
+use Rattle.bf_clear.specs.Aligning.{AreAligned}
+use Rattle.bf_clear.specs.inner.Aligning.{AreApart}
 use Rattle.bf_clear.proofs.Aligned.{aligned_by_ids, tasks_apart}
 use Rattle.bf_clear.proofs.aligning.align.Goals as goal
 

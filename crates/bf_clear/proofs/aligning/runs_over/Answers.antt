@@ -4,7 +4,8 @@ use Rattle.std.proofs.lemmas.List.{get_or_default, take_more}
 use Rattle.bf_interval.specs.declared.interval.Interval.{Interval}
 use Rattle.bf_report.specs.declared.report.RunReport.{RunReport}
 use Rattle.bf_report.specs.declared.report.TaskReport.{TaskReport}
-use Rattle.bf_clear.specs.Aligning.{AreAlignedBy, tasks_at, told_at}
+use Rattle.bf_clear.specs.Aligning.{tasks_at, told_at}
+use Rattle.bf_clear.specs.inner.Aligning.{AreAlignedBy}
 use Rattle.bf_clear.proofs.Aligned.{aligned_more}
 use Rattle.bf_clear.proofs.aligning.runs_over.Goals as goal
 

@@ -1,6 +1,7 @@
 use Rattle.std.proofs.Common.{◌≡◌, ◌≤◌, ◌<◌, ℕ, get_or, length, take}
 use Rattle.bf_interval.specs.declared.interval.Interval.{Interval}
-use Rattle.bf_clear.specs.Aligning.{AreAlignedBy, tasks_at}
+use Rattle.bf_clear.specs.Aligning.{tasks_at}
+use Rattle.bf_clear.specs.inner.Aligning.{AreAlignedBy}
 use Rattle.bf_clear.proofs.aligning.runs_over.Given as goal
 
 -- what was told of the runs before, and what was told of the others is told still

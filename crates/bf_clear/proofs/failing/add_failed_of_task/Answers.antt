@@ -3,7 +3,7 @@ use Rattle.std.proofs.lemmas.Int.{to_z_pos}
 use Rattle.bf_core.specs.Terms.{JobName}
 use Rattle.bf_dependents.specs.declared.place.Place.{Place}
 use Rattle.bf_dependents.specs.Listing.{up_to}
-use Rattle.bf_clear.specs.Failing.{failed_at}
+use Rattle.bf_clear.specs.inner.Failing.{failed_at}
 use Rattle.bf_dependents.proofs.Listed.{up_to_more}
 use Rattle.bf_clear.proofs.failing.add_failed_of_task.Goals as goal
 

@@ -1,6 +1,6 @@
 use Rattle.std.proofs.Common.{◌≡◌, ◌++◌, pos, negsuc}
 use Rattle.bf_dependents.specs.Listing.{up_to}
-use Rattle.bf_clear.specs.Failing.{failed_at}
+use Rattle.bf_clear.specs.inner.Failing.{failed_at}
 use Rattle.bf_clear.proofs.failing.add_failed_of_task.Given as goal
 
 abbrev pub invariant-loop-place : goal.invariant-loop-place

@@ -4,7 +4,8 @@ use Rattle.bf_value.specs.declared.name.JobName.{JobName}
 use Rattle.bf_xcom.specs.declared.values.Given.{Given}
 use Rattle.bf_try.specs.declared.answers.Raw.{Raw}
 use Rattle.bf_table.specs.Tables.{answer_of}
-use Rattle.bf_commands.specs.OverTable.{IsUnsent, IsWantingWorkers, is_single_threaded_in}
+use Rattle.bf_commands.specs.OverTable.{is_single_threaded_in}
+use Rattle.bf_commands.specs.inner.OverTable.{IsUnsent, IsWantingWorkers}
 use Rattle.bf_commands.proofs.FromKept.{end_over, fail_weaker}
 use Rattle.bf_commands.proofs.Over.{end_by_more}
 use Rattle.bf_commands.proofs.backfill.resume_over_table.Goals as goal

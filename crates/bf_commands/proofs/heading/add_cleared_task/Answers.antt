@@ -1,7 +1,7 @@
 use Rattle.std.proofs.Common.{◌≡◌, Bor, Option, Some, option_map, slice_get, sym, ap, ◌∙◌, subst}
 use Rattle.bf_interval.specs.declared.interval.Interval.{Interval}
 use Rattle.bf_interval.specs.Intervals.{IsShownInterval}
-use Rattle.bf_commands.specs.Journaled.{AddsTold}
+use Rattle.bf_commands.specs.inner.Journaled.{AddsTold}
 use Rattle.bf_commands.proofs.Headings.{all_at, looked_up}
 use Rattle.bf_commands.proofs.heading.add_cleared_task.Goals as goal
 

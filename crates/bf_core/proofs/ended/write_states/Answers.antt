@@ -1,7 +1,7 @@
 use Rattle.std.proofs.Common.{◌<◌, ℕ, length, sym, ap, ◌∙◌, arith, length-set}
 use Rattle.bf_core.specs.Terms.{Run}
 use Rattle.bf_core.specs.Recursion.{run_state_of}
-use Rattle.bf_core.specs.Checks.{row_value}
+use Rattle.bf_core.specs.inner.Checks.{row_value}
 use Rattle.bf_core.proofs.Closing.{written_more, row_state}
 use Rattle.bf_core.proofs.ended.write_states.Goals as goal
 

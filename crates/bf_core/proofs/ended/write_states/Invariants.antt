@@ -1,6 +1,6 @@
 use Rattle.std.proofs.Common.{◌≡◌, ◌<◌, ℕ, length, Some, slice_get}
 use Rattle.bf_core.specs.Recursion.{run_state_of}
-use Rattle.bf_core.specs.Checks.{row_value}
+use Rattle.bf_core.specs.inner.Checks.{row_value}
 use Rattle.bf_core.proofs.ended.write_states.Given as goal
 
 abbrev pub invariant-loop-run : goal.invariant-loop-run

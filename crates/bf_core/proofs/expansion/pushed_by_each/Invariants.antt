@@ -1,5 +1,5 @@
 use Rattle.std.proofs.Common.{◌≡◌, map, take}
-use Rattle.bf_core.specs.Words.{pushed_by_one}
+use Rattle.bf_core.specs.inner.Words.{pushed_by_one}
 use Rattle.bf_core.proofs.expansion.pushed_by_each.Given as goal
 
 -- what the instances before pushed

@@ -1,5 +1,5 @@
 use Rattle.std.proofs.Common.{◌≡◌, true, false, sym, ◌∙◌}
-use Rattle.bf_core.specs.Checks.{asked_phase}
+use Rattle.bf_core.specs.inner.Checks.{asked_phase}
 use Rattle.bf_core.proofs.Known.{present_from, known_from, known_back, present_back}
 use Rattle.bf_core.proofs.names.require_unfinished_instance.Goals as goal
 

@@ -1,6 +1,6 @@
 use Rattle.std.proofs.Common.{Some, option_copied, sym, ap, ◌∙◌}
 use Rattle.bf_mapped.proofs.FilterLemmas.{one_more, none_more}
-use Rattle.bf_core.specs.Words.{pushed_by_one}
+use Rattle.bf_core.specs.inner.Words.{pushed_by_one}
 use Rattle.bf_core.proofs.pulls.pushed_by_all.Goals as goal
 use Rattle.bf_core.proofs.pulls.pushed_by_all.Goals.{in-Some+in_ok-copy+in_ok-push, in_default}
 

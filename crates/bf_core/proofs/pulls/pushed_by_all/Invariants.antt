@@ -1,6 +1,6 @@
 use Rattle.std.proofs.Common.{◌≡◌, take}
 use Rattle.std.specs.List.{filter_map}
-use Rattle.bf_core.specs.Words.{pushed_by_one}
+use Rattle.bf_core.specs.inner.Words.{pushed_by_one}
 use Rattle.bf_core.proofs.pulls.pushed_by_all.Given as goal
 
 -- what the instances before pushed

@@ -2,7 +2,8 @@ use Rattle.std.proofs.Common.{rules, tests, map, ap, ◌∙◌, sym, subst, List
 use Rattle.std.proofs.lemmas.List.{map-append}
 use Rattle.std.proofs.lemmas.Iterator.Consumers.{YieldsList-end, YieldsList-turn, YieldsList-at}
 use Rattle.std.proofs.lemmas.Iterator.Splits.{YieldsList-from_slice_split}
-use Rattle.bf_cron.specs.Cron.{items_of, item_of, IsField}
+use Rattle.bf_cron.specs.Cron.{items_of, item_of}
+use Rattle.bf_cron.specs.inner.Cron.{IsField}
 use Rattle.bf_cron.proofs.Items.{items_of_none, IsField-push, IsField-none}
 use Rattle.bf_cron.proofs.reading.read_field.Goals as goal
 

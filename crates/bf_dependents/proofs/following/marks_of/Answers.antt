@@ -1,5 +1,6 @@
 use Rattle.std.proofs.Common.{ap, ◌∙◌, sym, subst, arith}
-use Rattle.bf_dependents.specs.Marks.{follows_in, AreMarksFor}
+use Rattle.bf_dependents.specs.Marks.{follows_in}
+use Rattle.bf_dependents.specs.inner.Marks.{AreMarksFor}
 use Rattle.bf_dependents.proofs.RightMarks.{marks_more, marks_end}
 use Rattle.bf_dependents.proofs.following.marks_of.Goals as goal
 

@@ -4,7 +4,8 @@ use Rattle.bf_graph.specs.Reach.{row_at}
 use Rattle.bf_graph.specs.Shape.{Shape}
 use Rattle.bf_plan.specs.declared.plan.Dag.{Dag}
 use Rattle.bf_plan.specs.Plans.{shape_of}
-use Rattle.bf_dependents.specs.Marks.{marks_before_in, AreSeeded, AreTouched}
+use Rattle.bf_dependents.specs.Marks.{marks_before_in}
+use Rattle.bf_dependents.specs.inner.Marks.{AreSeeded, AreTouched}
 use Rattle.bf_dependents.proofs.RightMarks.{behind_read, made_read, one_row_more}
 use Rattle.bf_dependents.proofs.following.touched_marks_of.Goals as goal
 

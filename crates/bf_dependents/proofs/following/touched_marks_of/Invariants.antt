@@ -1,4 +1,4 @@
-use Rattle.bf_dependents.specs.Marks.{AreTouched}
+use Rattle.bf_dependents.specs.inner.Marks.{AreTouched}
 use Rattle.bf_dependents.proofs.following.touched_marks_of.Given as goal
 
 abbrev pub invariant-loop-run : goal.invariant-loop-run

@@ -1,5 +1,5 @@
 use Rattle.std.proofs.Common.{List, Bool, sym, subst}
-use Rattle.bf_dependents.specs.Marks.{AreTouched}
+use Rattle.bf_dependents.specs.inner.Marks.{AreTouched}
 use Rattle.bf_dependents.proofs.Lookups.{found_right, if_both}
 use Rattle.bf_dependents.proofs.found.dependents.Goals as goal
 

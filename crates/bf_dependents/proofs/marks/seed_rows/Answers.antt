@@ -1,6 +1,6 @@
 use Rattle.std.proofs.Common.{◌+◌, List, Bool, sym, subst, take}
 use Rattle.std.proofs.lemmas.List.{get_or_default}
-use Rattle.bf_dependents.specs.Marks.{AreSeeded}
+use Rattle.bf_dependents.specs.inner.Marks.{AreSeeded}
 use Rattle.bf_dependents.proofs.RightMarks.{seeded_more}
 use Rattle.bf_dependents.proofs.marks.seed_rows.Goals as goal
 

@@ -1,4 +1,4 @@
-use Rattle.bf_dependents.specs.Marks.{AreUnmarked}
+use Rattle.bf_dependents.specs.inner.Marks.{AreUnmarked}
 use Rattle.bf_dependents.proofs.marks.unmarked_rows.Given as goal
 
 abbrev pub invariant-loop : goal.invariant-loop

@@ -1,5 +1,5 @@
 use Rattle.std.proofs.Common.{◌≤◌, ◌+◌, length}
-use Rattle.bf_due.specs.Dues.{Asks, IsOfFirst}
+use Rattle.bf_due.specs.inner.Dues.{Asks, IsOfFirst}
 use Rattle.bf_due.proofs.asking.add_decisions_by_news.Given as goal
 
 abbrev pub invariant-loop-task : goal.invariant-loop-task

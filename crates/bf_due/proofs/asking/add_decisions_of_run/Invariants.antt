@@ -1,5 +1,5 @@
 use Rattle.std.proofs.Common.{◌≤◌, ◌+◌, length}
-use Rattle.bf_due.specs.Dues.{Asks, IsBelow}
+use Rattle.bf_due.specs.inner.Dues.{Asks, IsBelow}
 use Rattle.bf_due.proofs.asking.add_decisions_of_run.Given as goal
 
 abbrev pub invariant-loop-task : goal.invariant-loop-task

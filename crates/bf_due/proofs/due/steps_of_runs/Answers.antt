@@ -1,6 +1,7 @@
 use Rattle.std.proofs.Common.{List, [], subst}
 use Rattle.bf_due.specs.declared.agenda.Step.{Step}
-use Rattle.bf_due.specs.Dues.{HasAdded, IsOfRun}
+use Rattle.bf_due.specs.Dues.{HasAdded}
+use Rattle.bf_due.specs.inner.Dues.{IsOfRun}
 use Rattle.bf_due.proofs.Adding.{one_run_more}
 use Rattle.bf_due.proofs.due.steps_of_runs.Goals as goal
 

@@ -1,5 +1,5 @@
 use Rattle.std.proofs.Common.{subst}
-use Rattle.bf_exec.specs.Turns.{IsLeftBy}
+use Rattle.bf_exec.specs.inner.Turns.{IsLeftBy}
 use Rattle.bf_exec.proofs.Closing.{no_stranger}
 use Rattle.bf_exec.proofs.running.run_in_scope.Goals as goal
 

@@ -1,7 +1,7 @@
 use Rattle.std.proofs.Common.{◌≡◌, ◌+◌, drop, length}
 use Rattle.std.specs.Vec.Iter.{into_iter_items, into_iter_len}
-use Rattle.bf_exec.specs.Accounts.{AreUnused}
-use Rattle.bf_exec.specs.Starting.{AreFresh}
+use Rattle.bf_exec.specs.inner.Accounts.{AreUnused}
+use Rattle.bf_exec.specs.inner.Starting.{AreFresh}
 use Rattle.bf_exec.proofs.starting.start_lanes.Given as goal
 
 abbrev pub invariant-loop-seat : goal.invariant-loop-seat

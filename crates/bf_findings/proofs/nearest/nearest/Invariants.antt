@@ -1,5 +1,5 @@
 use Rattle.std.proofs.Common.{map, take}
-use Rattle.bf_findings.specs.Nearest.{IsBest}
+use Rattle.bf_findings.specs.inner.Nearest.{IsBest}
 use Rattle.bf_findings.proofs.nearest.nearest.Given as goal
 
 abbrev pub invariant-loop-name : goal.invariant-loop-name

@@ -1,6 +1,6 @@
 use Rattle.std.proofs.Common.{◌≡◌, ◌≢◌, ◌<◌, Bool, true, false, true≢false, not, None, MatchBool, is_some, length, below_more, ap, sym, ◌∙◌, arith}
 use Rattle.std.proofs.lemmas.List.{get_or_default}
-use Rattle.bf_graph.specs.Ranks.{rank_at}
+use Rattle.bf_graph.specs.inner.Ranks.{rank_at}
 use Rattle.bf_graph.proofs.climb.find_ranks_and_reach.Goals as goal
 use Rattle.bf_graph.proofs.climb.find_ranks_and_reach.Goals.{else-is_none-via-then-is_none+in_ok-rank_with_ancestors-2+else-not-branch, else-is_none-via-else-is_none}
 

@@ -1,6 +1,6 @@
 use Rattle.std.proofs.Common.{◌≢◌, ◌<◌, ℕ, None}
-use Rattle.bf_graph.specs.Climbs.{IsDown}
-use Rattle.bf_graph.specs.Ranks.{rank_at}
+use Rattle.bf_graph.specs.inner.Climbs.{IsDown}
+use Rattle.bf_graph.specs.inner.Ranks.{rank_at}
 use Rattle.bf_graph.proofs.climb.find_ranks_and_reach.Given as goal
 
 abbrev pub invariant-loop-t : goal.invariant-loop-t

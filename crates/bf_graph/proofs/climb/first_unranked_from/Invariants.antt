@@ -1,4 +1,4 @@
-use Rattle.bf_graph.specs.Climbs.{AreRankedBetween}
+use Rattle.bf_graph.specs.inner.Climbs.{AreRankedBetween}
 use Rattle.bf_graph.proofs.climb.first_unranked_from.Given as goal
 
 abbrev pub invariant-loop-place : goal.invariant-loop-place

@@ -1,5 +1,5 @@
 use Rattle.bf_graph.specs.Edges.{lists}
-use Rattle.bf_graph.specs.Lookups.{AreDownstreamsBelow}
+use Rattle.bf_graph.specs.inner.Lookups.{AreDownstreamsBelow}
 use Rattle.bf_graph.proofs.lookups.downstreams_of.Given as goal
 
 abbrev pub invariant-loop-t : goal.invariant-loop-t

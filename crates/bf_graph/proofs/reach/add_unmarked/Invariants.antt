@@ -1,5 +1,5 @@
 use Rattle.std.proofs.Common.{◌≡◌, length}
-use Rattle.bf_graph.specs.Cycles.{AreMarked}
+use Rattle.bf_graph.specs.inner.Cycles.{AreMarked}
 use Rattle.bf_graph.proofs.ReachingLemmas.{AddsBelow}
 use Rattle.bf_graph.proofs.reach.add_unmarked.Given as goal
 

@@ -1,6 +1,6 @@
 use Rattle.std.proofs.Common.{◌<◌, List, ℕ, length, subst, ap, ◌∙◌, arith}
 use Rattle.bf_graph.specs.Edges.{lists, upstreams_of}
-use Rattle.bf_graph.specs.Cycles.{AreAdded}
+use Rattle.bf_graph.specs.inner.Cycles.{AreAdded}
 use Rattle.bf_graph.proofs.RankLemmas.{upstreams_read, in_range_read}
 use Rattle.bf_graph.proofs.ReachingLemmas.{none_marked, direct_found, task_read, one_done, all_reaching, marks_reaching}
 use Rattle.bf_graph.proofs.reach.reaching_tasks.Goals as goal

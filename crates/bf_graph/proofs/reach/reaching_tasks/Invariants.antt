@@ -1,6 +1,6 @@
 use Rattle.std.proofs.Common.{◌≡◌, ◌-◌, length}
 use Rattle.bf_graph.specs.Edges.{lists}
-use Rattle.bf_graph.specs.Cycles.{AreMarked}
+use Rattle.bf_graph.specs.inner.Cycles.{AreMarked}
 use Rattle.bf_graph.proofs.ReachingLemmas.{ReachesSoFar}
 use Rattle.bf_graph.proofs.reach.reaching_tasks.Given as goal
 

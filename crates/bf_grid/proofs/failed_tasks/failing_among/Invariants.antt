@@ -1,6 +1,6 @@
 use Rattle.std.proofs.Common.{◌≡◌, map, take}
 use Rattle.bf_grid.specs.FailedTasks.{failing_of}
-use Rattle.bf_grid.specs.FoundTasks.{pair_of}
+use Rattle.bf_grid.specs.inner.FoundTasks.{pair_of}
 use Rattle.bf_grid.proofs.failed_tasks.failing_among.Given as goal
 
 abbrev pub invariant-loop-task : goal.invariant-loop-task

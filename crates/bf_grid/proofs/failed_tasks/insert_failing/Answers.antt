@@ -1,5 +1,5 @@
 use Rattle.std.proofs.Common.{insert, map, ap, ap₂, ◌∙◌}
-use Rattle.bf_grid.specs.FoundTasks.{first_fewer, pair_of}
+use Rattle.bf_grid.specs.inner.FoundTasks.{first_fewer, pair_of}
 use Rattle.bf_grid.proofs.FoundFacts.{put_there}
 use Rattle.bf_grid.proofs.failed_tasks.insert_failing.Goals as goal
 

@@ -1,5 +1,5 @@
 use Rattle.std.proofs.Common.{◌≡◌, ◌+◌, drop}
-use Rattle.bf_grid.specs.FoundTasks.{first_fewer}
+use Rattle.bf_grid.specs.inner.FoundTasks.{first_fewer}
 use Rattle.bf_grid.proofs.failed_tasks.place_of.Given as goal
 
 abbrev pub invariant-loop-place : goal.invariant-loop-place

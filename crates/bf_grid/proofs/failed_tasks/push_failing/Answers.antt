@@ -2,7 +2,7 @@ use Rattle.std.proofs.Common.{◌≡◌, ℕ, List, ◌∷◌, ◌++◌, OnOk, c
 use Rattle.std.specs.List.{flat_map}
 use Rattle.bf_grid.specs.declared.failed_tasks.Failing.{Failing}
 use Rattle.bf_grid.specs.FailedTasks.{failing_of, failing_line, failing_text, further_line, id_width_of}
-use Rattle.bf_grid.specs.FoundTasks.{pair_of}
+use Rattle.bf_grid.specs.inner.FoundTasks.{pair_of}
 use Rattle.bf_wording.specs.Numbers.{count_text_of}
 use Rattle.bf_grid.proofs.FoundFacts.{failing_told, first_of}
 use Rattle.bf_grid.proofs.failed_tasks.push_failing.Goals as goal

@@ -1,7 +1,7 @@
 use Rattle.std.proofs.Common.{◌≡◌, ◌++◌, map, take}
 use Rattle.std.specs.List.{flat_map}
 use Rattle.bf_grid.specs.FailedTasks.{failing_line}
-use Rattle.bf_grid.specs.FoundTasks.{pair_of}
+use Rattle.bf_grid.specs.inner.FoundTasks.{pair_of}
 use Rattle.bf_grid.proofs.failed_tasks.push_lines.Given as goal
 
 abbrev pub invariant-loop-failing : goal.invariant-loop-failing

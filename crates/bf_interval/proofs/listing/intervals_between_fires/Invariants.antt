@@ -1,5 +1,5 @@
 use Rattle.std.proofs.Common.{◌≡◌, length, get_or}
-use Rattle.bf_interval.specs.Search.{ArePairs}
+use Rattle.bf_interval.specs.inner.Search.{ArePairs}
 use Rattle.bf_interval.proofs.listing.intervals_between_fires.Given as goal
 
 abbrev pub invariant-loop-end : goal.invariant-loop-end

@@ -4,7 +4,7 @@ use Rattle.bf_value.specs.declared.xval.Xval.{Xval}
 use Rattle.bf_value.specs.declared.xval.Xval.TheVariants.{List as ListOf}
 use Rattle.bf_value.specs.Views.{list_of}
 use Rattle.bf_journal.specs.Records.{optional_value_of}
-use Rattle.bf_journal.specs.Tells.{IsFound}
+use Rattle.bf_journal.specs.inner.Tells.{IsFound}
 use Rattle.bf_journal.proofs.Optionals.{found_alike, same_items}
 use Rattle.bf_journal.proofs.field.pulled_values_in.Goals as goal
 

@@ -1,7 +1,7 @@
 use Rattle.std.proofs.Common.{◌≡◌, subst, Option}
 use Rattle.bf_value.specs.declared.xval.Xval.{Xval}
 use Rattle.bf_journal.specs.Records.{optional_value_of}
-use Rattle.bf_journal.specs.Tells.{IsFound}
+use Rattle.bf_journal.specs.inner.Tells.{IsFound}
 use Rattle.bf_journal.proofs.Optionals.{none_listed}
 use Rattle.bf_journal.proofs.field.pulled_values_of.Goals as goal
 

@@ -1,6 +1,6 @@
 use Rattle.std.proofs.Common.{length}
 use Rattle.std.specs.FinMap as map
-use Rattle.bf_journal.specs.Found.{AreOfTasks}
+use Rattle.bf_journal.specs.inner.Found.{AreOfTasks}
 use Rattle.bf_journal.proofs.Lasting.{IsLeft}
 use Rattle.bf_journal.proofs.last.last_of.Given as goal
 

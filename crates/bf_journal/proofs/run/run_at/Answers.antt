@@ -4,7 +4,7 @@ use Rattle.std.specs.Int.{w128}
 use Rattle.std.proofs.lemmas.Int.{to_z-of_z}
 use Rattle.std.proofs.lemmas.List.Sorted.{answers_always}
 use Rattle.bf_interval.specs.Runs.{AreOfRuns}
-use Rattle.bf_journal.specs.Tells.{StartsOn}
+use Rattle.bf_journal.specs.inner.Tells.{StartsOn}
 use Rattle.bf_journal.proofs.Starting.{found, not_found, start_of}
 use Rattle.bf_journal.proofs.run.run_at.Goals as goal
 

@@ -1,5 +1,5 @@
 use Rattle.std.proofs.Common.{◌≡◌, subst, sym, true}
-use Rattle.bf_journal.specs.Tells.{StartsAt}
+use Rattle.bf_journal.specs.inner.Tells.{StartsAt}
 use Rattle.bf_journal.proofs.Starting.{none_at, none_spelled, other_text}
 use Rattle.bf_journal.proofs.run.run_in.Goals as goal
 

@@ -1,7 +1,8 @@
 use Rattle.std.proofs.Common.{◌≡◌, ◌+◌, length, subst, sym, Option, arith}
 use Rattle.bf_value.specs.declared.name.JobName.{JobName}
 use Rattle.bf_try.specs.declared.ledger.Entry.{Entry}
-use Rattle.bf_journal.specs.Tells.{IsFound, TellsLine, TellsNone}
+use Rattle.bf_journal.specs.Tells.{TellsLine, TellsNone}
+use Rattle.bf_journal.specs.inner.Tells.{IsFound}
 use Rattle.bf_journal.specs.Found.{IsFirstBad}
 use Rattle.bf_journal.proofs.Passing.{HasRead, bad_read, more_read}
 use Rattle.bf_journal.proofs.told.tries_told_in.Goals as goal

@@ -2,7 +2,8 @@ use Rattle.std.proofs.Common.{◌≡◌, sym, subst, IsUtf8}
 use Rattle.std.proofs.lemmas.Result.{IfOk-weaker}
 use Rattle.bf_value.specs.declared.name.JobName.{JobName}
 use Rattle.bf_try.specs.declared.ledger.Entry.{Entry}
-use Rattle.bf_journal.specs.Tells.{IsFound, TellsLine, TellsText}
+use Rattle.bf_journal.specs.Tells.{TellsLine, TellsText}
+use Rattle.bf_journal.specs.inner.Tells.{IsFound}
 use Rattle.bf_journal.proofs.Optionals.{found_alike}
 use Rattle.bf_journal.proofs.tried.told_try_in.Goals as goal
 

@@ -7,7 +7,8 @@ use Rattle.bf_value.specs.Json.{value_of_text}
 use Rattle.bf_value.specs.Views.{list_of}
 use Rattle.bf_plan.proofs.ListLemmas.{some_same}
 use Rattle.bf_try.specs.declared.ledger.Entry.{Entry}
-use Rattle.bf_journal.specs.Tells.{IsFound, Tells, TellsText}
+use Rattle.bf_journal.specs.Tells.{Tells, TellsText}
+use Rattle.bf_journal.specs.inner.Tells.{IsFound}
 use Rattle.bf_journal.proofs.Optionals.{found_alike}
 use Rattle.bf_journal.proofs.tried.told_try_in_text.Goals as goal
 

@@ -1,7 +1,7 @@
 use Rattle.std.proofs.Common.{◌≡◌, subst, length, Option, arith}
 use Rattle.std.proofs.lemmas.Bool.Decides.{nat_tests}
 use Rattle.bf_try.specs.declared.ledger.Entry.{Entry}
-use Rattle.bf_journal.specs.Tells.{IsFound, TellsEntry}
+use Rattle.bf_journal.specs.inner.Tells.{IsFound, TellsEntry}
 use Rattle.bf_journal.proofs.Reading.{count_of, entry_of, name_of, tells_of}
 use Rattle.bf_journal.proofs.tried.told_try_of.Goals as goal
 

@@ -1,5 +1,6 @@
 use Rattle.std.proofs.Common.{◌≡◌, ◌+◌, drop}
-use Rattle.bf_marks.specs.Labels.{groups_of, same_first}
+use Rattle.bf_marks.specs.Labels.{groups_of}
+use Rattle.bf_marks.specs.inner.Labels.{same_first}
 use Rattle.bf_marks.proofs.LabelFacts.{moments}
 use Rattle.bf_marks.proofs.label.count_same_at_front.Given as goal
 

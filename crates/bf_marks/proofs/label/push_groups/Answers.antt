@@ -2,7 +2,8 @@ use Rattle.std.proofs.Common.{◌≡◌, ℕ, List, ◌+◌, ◌-◌, ◌==◌, 
 use Rattle.std.proofs.lemmas.List.{take_all, length-drop}
 use Rattle.bf_moment.specs.Moment.{moment_text}
 use Rattle.bf_moment.specs.declared.moment.Moment.{Moment}
-use Rattle.bf_marks.specs.Labels.{counted, fitted_of, group_label, group_of, groups_of, groups_text, left, same_first}
+use Rattle.bf_marks.specs.Labels.{counted, fitted_of, group_label, group_of, groups_of, groups_text, left}
+use Rattle.bf_marks.specs.inner.Labels.{same_first}
 use Rattle.bf_marks.proofs.LabelFacts.{moments, group_more, dropped_groups, length_groups}
 use Rattle.bf_marks.proofs.label.push_groups.Goals as goal
 

@@ -1,7 +1,7 @@
 use Rattle.std.proofs.Common.{◌≡◌, ◌+◌, ◌-◌, ◌++◌, List, ℕ, suc, length, reverse, replicate, false, IfSome, ap, subst, arith}
 use Rattle.std.proofs.lemmas.List.{length_push}
 use Rattle.bf_marks.specs.RowOrder.{order_from, order_of, has_no_upstreams_in, tasks_where}
-use Rattle.bf_marks.specs.Walk.{GoesOnBy}
+use Rattle.bf_marks.specs.inner.Walk.{GoesOnBy}
 use Rattle.bf_marks.proofs.OrderFacts.{stood}
 use Rattle.bf_marks.proofs.row_order.tasks_in_order.Goals as goal
 

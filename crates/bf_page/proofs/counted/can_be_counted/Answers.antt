@@ -1,7 +1,7 @@
 use Rattle.std.proofs.Common.{◌≡◌, ◌∙◌, ℕ, List, [], ◌∷◌, arith, sym}
 use Rattle.std.specs.List.{list_any}
 use Rattle.bf_texts.specs.declared.page.TheConstants as fixed
-use Rattle.bf_page.specs.Counted.{is_long}
+use Rattle.bf_page.specs.inner.Counted.{is_long}
 use Rattle.bf_page.proofs.CountedFacts.{unset, woven_counted}
 use Rattle.bf_page.proofs.counted.can_be_counted.Goals as goal
 

@@ -1,7 +1,7 @@
 use Rattle.std.proofs.Common.{◌++◌, ◌+◌, ◌%◌, ◌^◌, ℕ, List, arith, sym, subst}
 use Rattle.std.specs.List.{flat_map}
 use Rattle.std.proofs.lemmas.List.{take_rest}
-use Rattle.bf_page.specs.Pieces.{piece_text, behind}
+use Rattle.bf_page.specs.inner.Pieces.{piece_text, behind}
 use Rattle.bf_page.proofs.SendingFacts.{HasGoneOut, more_out, took_some}
 use Rattle.bf_page.proofs.sending.send_pieces.Goals as goal
 

@@ -1,7 +1,7 @@
 use Rattle.std.proofs.Common.{◌+◌, ◌-◌, ◌≤◌, length}
 use Rattle.std.specs.List.{flat_map}
 use Rattle.bf_device.specs.Device.{WentOn}
-use Rattle.bf_page.specs.Pieces.{piece_text, left, steps_behind}
+use Rattle.bf_page.specs.inner.Pieces.{piece_text, left, steps_behind}
 use Rattle.bf_page.proofs.SendingFacts.{HasGoneOut}
 use Rattle.bf_page.proofs.sending.send_pieces.Given as goal
 

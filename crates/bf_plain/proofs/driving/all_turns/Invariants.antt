@@ -1,7 +1,7 @@
 use Rattle.std.proofs.Common.{◌≡◌, ◌-◌, ◌^◌, length}
 use Rattle.bf_sched.specs.Driving.{StaysDriven}
-use Rattle.bf_plain.specs.Driving.{IsIdle}
-use Rattle.bf_plain.specs.Ticks.{TicksSo}
+use Rattle.bf_plain.specs.inner.Driving.{IsIdle}
+use Rattle.bf_plain.specs.inner.Ticks.{TicksSo}
 use Rattle.bf_plain.proofs.driving.all_turns.Given as goal
 
 abbrev pub invariant-loop-scheduler : goal.invariant-loop-scheduler

@@ -1,5 +1,6 @@
 use Rattle.std.proofs.Common.{ℕ, ap, ◌∙◌, length, subst}
-use Rattle.bf_core.specs.Driven.{IsDriven, IsOver}
+use Rattle.bf_core.specs.Driven.{IsDriven}
+use Rattle.bf_core.specs.inner.Driven.{IsOver}
 use Rattle.bf_core.specs.Running.{running_now}
 use Rattle.bf_sched.specs.Scheduling.{Schedule}
 use Rattle.bf_sched.proofs.Driving.{driven_first, ends_over, opening_idle}

@@ -1,6 +1,6 @@
 use Rattle.std.proofs.Common.{All, sym, subst}
 use Rattle.bf_command_fault.proofs.Leaving.{send_leaves}
-use Rattle.bf_planning.specs.Lists.{IsSince1970}
+use Rattle.bf_planning.specs.inner.Lists.{IsSince1970}
 use Rattle.bf_planning.proofs.Faults.{list_wanting, write_wanting}
 use Rattle.bf_planning.proofs.ListedIntervals.{listed_text, since_1970}
 use Rattle.bf_planning.proofs.Results.{handed_on}

@@ -1,5 +1,5 @@
 use Rattle.std.proofs.Common.{take}
-use Rattle.bf_process.specs.Commands.{IsSaidAfter, IsSameElse}
+use Rattle.bf_process.specs.inner.Commands.{IsSaidAfter, IsSameElse}
 use Rattle.bf_process.specs.Environment.{pairs_of, variables_of}
 use Rattle.bf_process.proofs.program.add_common_variables.Given as goal
 

@@ -1,6 +1,6 @@
 use Rattle.std.proofs.Common.{◌++◌, ◌∙◌, ap, string_bytes}
 use Rattle.bf_quoted.specs.Words.{quoted}
-use Rattle.bf_quoted.specs.Lines.{gap}
+use Rattle.bf_quoted.specs.inner.Lines.{gap}
 use Rattle.bf_quoted.proofs.LineFacts.{line_more}
 use Rattle.bf_quoted.proofs.line.push_line.Goals as goal
 

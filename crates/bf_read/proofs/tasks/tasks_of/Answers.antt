@@ -4,7 +4,7 @@ use Rattle.std.proofs.lemmas.Result.{err_from_is_err_and}
 use Rattle.serde_json.specs.View.{items_view}
 use Rattle.bf_read.specs.declared.draft.TaskDraft.{TaskDraft}
 use Rattle.bf_read.specs.Gives.{◌>>=◌}
-use Rattle.bf_read.specs.Drafts.{MayFollow}
+use Rattle.bf_read.specs.inner.Drafts.{MayFollow}
 use Rattle.bf_read.specs.Reading.{tasks_from}
 use Rattle.bf_read.proofs.FieldLemmas.{fails_on}
 use Rattle.bf_read.proofs.TaskLemmas.{KeepsTasks, step, all_read, one_more}

@@ -1,6 +1,6 @@
 use Rattle.std.proofs.Common.{◌∙◌, ap}
 use Rattle.std.proofs.lemmas.Result.{on_ok_weaker}
-use Rattle.bf_report_reader.specs.Lasts.{at_last, told_task}
+use Rattle.bf_report_reader.specs.inner.Lasts.{at_last, told_task}
 use Rattle.bf_report_reader.proofs.PartingFacts.{set_last}
 use Rattle.bf_report_reader.proofs.open.add_part_to_last_task.Goals as goal
 

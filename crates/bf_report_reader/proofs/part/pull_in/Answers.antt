@@ -4,7 +4,7 @@ use Rattle.bf_plan.specs.Ids.{is_id_in}
 use Rattle.bf_plan.proofs.ListLemmas.{some_same}
 use Rattle.bf_report.specs.Report.{pulled_word}
 use Rattle.bf_report_reader.specs.Parts.{IsToldPulled}
-use Rattle.bf_report_reader.specs.Reads.{Spells}
+use Rattle.bf_report_reader.specs.inner.Reads.{Spells}
 use Rattle.bf_report_reader.proofs.Words.{id_utf8}
 use Rattle.bf_report_reader.proofs.Spelled.{pull_fields}
 use Rattle.bf_report_reader.proofs.part.pull_in.Goals as goal

@@ -1,9 +1,10 @@
 use Rattle.std.proofs.Common.{◌++◌, ◌∷◌, [], ap, sym, subst, ◌∙◌}
 use Rattle.std.proofs.lemmas.Result.{err_from_is_err_and}
-use Rattle.bf_report_reader.specs.Beginning.{so_far, opening_text}
-use Rattle.bf_report_reader.specs.Extensions.{SaysHead, IsKnown}
+use Rattle.bf_report_reader.specs.Beginning.{so_far}
+use Rattle.bf_report_reader.specs.inner.Beginning.{opening_text}
+use Rattle.bf_report_reader.specs.inner.Extensions.{SaysHead, IsKnown}
 use Rattle.bf_report_reader.specs.Faults.{lines_in}
-use Rattle.bf_report_reader.specs.Lines.{line_in}
+use Rattle.bf_report_reader.specs.inner.Lines.{line_in}
 use Rattle.bf_report_reader.proofs.LineFacts.{one_line_more, first_read, first_stops, first_told}
 use Rattle.bf_report_reader.proofs.StepFacts.{head_opens}
 use Rattle.bf_report_reader.proofs.Reports.{known_start}

@@ -1,6 +1,6 @@
 use Rattle.std.proofs.Common.{◌≡◌, ◌∷◌, ◌++◌, Result, Ok, Err, codes, ap, sym, subst, ◌∙◌, rules}
 use Rattle.std.specs.Prelude.{IfOk}
-use Rattle.bf_report_reader.specs.Steps.{Steps}
+use Rattle.bf_report_reader.specs.inner.Steps.{Steps}
 use Rattle.bf_report_reader.proofs.Lines.{end_steps, entry_steps, IsOtherWord}
 use Rattle.bf_report_reader.proofs.reading.read_line.Goals as goal
 

@@ -2,10 +2,11 @@ use Rattle.std.proofs.Common.{◌++◌, ◌∷◌, [], ap, sym, subst, ◌≡◌
 use Rattle.std.proofs.lemmas.Result.{err_from_is_err_and}
 use Rattle.bf_report.specs.Report.{report_text}
 use Rattle.bf_report_reader.specs.declared.beginning.ReportSoFar.{ReportSoFar}
-use Rattle.bf_report_reader.specs.Beginning.{so_far, opening_text}
+use Rattle.bf_report_reader.specs.Beginning.{so_far}
+use Rattle.bf_report_reader.specs.inner.Beginning.{opening_text}
 use Rattle.bf_report_reader.specs.Rules.{IsShownReport}
 use Rattle.bf_report_reader.specs.Faults.{lines_in}
-use Rattle.bf_report_reader.specs.Lines.{line_in}
+use Rattle.bf_report_reader.specs.inner.Lines.{line_in}
 use Rattle.bf_report_reader.proofs.Chains.{keeps_next, known_next}
 use Rattle.bf_report_reader.proofs.LineFacts.{one_line_more, read_stops, line_tells}
 use Rattle.bf_report_reader.proofs.StepFacts.{reads_more}

@@ -1,9 +1,10 @@
 use Rattle.std.proofs.Common.{◌≡◌, ◌≤◌, ◌+◌}
 use Rattle.bf_report_reader.specs.Held.{ahead, Tallies}
-use Rattle.bf_report_reader.specs.Beginning.{room, so_far, opening_text}
+use Rattle.bf_report_reader.specs.Beginning.{so_far}
+use Rattle.bf_report_reader.specs.inner.Beginning.{room, opening_text}
 use Rattle.bf_report_reader.specs.Faults.{lines_in}
-use Rattle.bf_report_reader.specs.Steps.{ReadsOn}
-use Rattle.bf_report_reader.specs.Extensions.{IsKnown}
+use Rattle.bf_report_reader.specs.inner.Steps.{ReadsOn}
+use Rattle.bf_report_reader.specs.inner.Extensions.{IsKnown}
 use Rattle.bf_report_reader.proofs.Chains.{Keeps}
 use Rattle.bf_report_reader.proofs.reading.read_lines.Given as goal
 

@@ -1,4 +1,4 @@
-use Rattle.bf_rescan.specs.Looks.{IsSoonest}
+use Rattle.bf_rescan.specs.inner.Looks.{IsSoonest}
 use Rattle.bf_rescan.proofs.Present.{IsTryBelow}
 use Rattle.bf_rescan.proofs.moments.earliest_moment_of_task.Given as goal
 

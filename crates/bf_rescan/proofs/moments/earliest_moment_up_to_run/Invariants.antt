@@ -1,4 +1,4 @@
-use Rattle.bf_rescan.specs.Looks.{IsSoonest, IsTryBefore}
+use Rattle.bf_rescan.specs.inner.Looks.{IsSoonest, IsTryBefore}
 use Rattle.bf_rescan.proofs.moments.earliest_moment_up_to_run.Given as goal
 
 abbrev pub invariant-loop-task : goal.invariant-loop-task

@@ -1,4 +1,4 @@
-use Rattle.bf_rescan.specs.Looks.{IsSoonest, IsTryBefore}
+use Rattle.bf_rescan.specs.inner.Looks.{IsSoonest, IsTryBefore}
 use Rattle.bf_rescan.proofs.moments.next_moment.Given as goal
 
 abbrev pub invariant-loop-run : goal.invariant-loop-run

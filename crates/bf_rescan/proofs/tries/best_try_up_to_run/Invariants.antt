@@ -1,4 +1,4 @@
-use Rattle.bf_rescan.specs.Looks.{IsBest, IsTryBefore}
+use Rattle.bf_rescan.specs.inner.Looks.{IsBest, IsTryBefore}
 use Rattle.bf_rescan.proofs.tries.best_try_up_to_run.Given as goal
 
 abbrev pub invariant-loop-task : goal.invariant-loop-task

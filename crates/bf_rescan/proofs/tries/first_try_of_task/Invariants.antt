@@ -1,5 +1,5 @@
 use Rattle.std.proofs.Common.{None}
-use Rattle.bf_rescan.specs.Looks.{IsBest}
+use Rattle.bf_rescan.specs.inner.Looks.{IsBest}
 use Rattle.bf_rescan.proofs.Present.{IsTryBelow}
 use Rattle.bf_rescan.proofs.tries.first_try_of_task.Given as goal
 

@@ -1,4 +1,4 @@
-use Rattle.bf_rescan.specs.Looks.{IsBest, IsTryBefore}
+use Rattle.bf_rescan.specs.inner.Looks.{IsBest, IsTryBefore}
 use Rattle.bf_rescan.proofs.tries.next_try.Given as goal
 
 abbrev pub invariant-loop-run : goal.invariant-loop-run

@@ -1,6 +1,6 @@
 use Rattle.std.proofs.Common.{◌+◌, ◌*◌, List, ◌++◌, length, reverse}
 use Rattle.bf_roots.specs.declared.step.Root.{Root}
-use Rattle.bf_roots.specs.Showing.{IsShowing}
+use Rattle.bf_roots.specs.inner.Showing.{IsShowing}
 use Rattle.bf_roots.specs.Walks.{AreRootsOf, Walk}
 use Rattle.bf_roots.proofs.SeenFacts.{unseen_in}
 use Rattle.bf_roots.proofs.walk.roots_of.Given as goal

@@ -1,7 +1,8 @@
 use Rattle.std.proofs.Common.{Some, sym, ap, ◌∙◌}
 use Rattle.std.specs.List.{list_any}
 use Rattle.bf_value.specs.declared.xval.Xval.{Xval}
-use Rattle.bf_rule.specs.Branches.{followed_at, followed_by_name, name_in}
+use Rattle.bf_rule.specs.Branches.{followed_at, name_in}
+use Rattle.bf_rule.specs.inner.Branches.{followed_by_name}
 use Rattle.bf_rule.proofs.Following.{list_follows, no_text_follows_nothing}
 use Rattle.bf_rule.proofs.branching.follows_by_pushed.Goals as goal
 

@@ -5,7 +5,8 @@ use Rattle.bf_xcom.specs.declared.values.TaskResult.{TaskResult}
 use Rattle.serde_json.specs.Data.{Members, member, string, number, unsigned}
 use Rattle.bf_show.specs.JsonLines.{value_members, pulls_members, ended_members}
 use Rattle.bf_show.specs.declared.key.Key.TheVariants.{State, Tries, Value, Item}
-use Rattle.bf_show.specs.Pieces.{key_word, key_text, line_end}
+use Rattle.bf_show.specs.Pieces.{key_word, key_text}
+use Rattle.bf_show.specs.inner.Pieces.{line_end}
 use Rattle.bf_show.proofs.LineFacts.{ended_more, ended_by}
 use Rattle.bf_show.proofs.members.push_ended.Goals as goal
 

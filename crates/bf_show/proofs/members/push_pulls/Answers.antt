@@ -2,7 +2,7 @@ use Rattle.std.proofs.Common.{◌≡◌, ◌++◌, ◌∷◌, true, codes, lengt
 use Rattle.json.specs.Print.{quoted}
 use Rattle.serde_json.specs.Written.{compact_text, members_text}
 use Rattle.bf_show.specs.JsonLines.{pulled_data, pull_members, pulls_members}
-use Rattle.bf_show.specs.Pieces.{line_end}
+use Rattle.bf_show.specs.inner.Pieces.{line_end}
 use Rattle.bf_show.proofs.LineFacts.{pulls_more, no_pulls_end}
 use Rattle.bf_show.proofs.members.push_pulls.Goals as goal
 

@@ -1,7 +1,8 @@
 use Rattle.std.proofs.Common.{◌++◌, string_bytes, option_copied, sym, ap, ◌∙◌}
 use Rattle.bf_value.specs.Json.{json_of}
 use Rattle.bf_show.specs.JsonLines.{value_members}
-use Rattle.bf_show.specs.Pieces.{key_word, line_end}
+use Rattle.bf_show.specs.Pieces.{key_word}
+use Rattle.bf_show.specs.inner.Pieces.{line_end}
 use Rattle.bf_show.proofs.LineFacts.{value_more}
 use Rattle.bf_show.proofs.members.push_value.Goals as goal
 

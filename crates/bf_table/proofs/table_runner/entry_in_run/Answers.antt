@@ -1,7 +1,8 @@
 use Rattle.std.proofs.Common.{sym, ap, ◌∙◌, option_and_then, slice_get}
 use Rattle.std.specs.BTreeMap as tree
 use Rattle.bf_table.specs.declared.table_index.Pattern.{Pattern}
-use Rattle.bf_table.specs.TableIndex.{first_of_keys, keys_of, pattern_cmp}
+use Rattle.bf_table.specs.TableIndex.{pattern_cmp}
+use Rattle.bf_table.specs.inner.TableIndex.{first_of_keys, keys_of}
 use Rattle.bf_table.proofs.KeyLemmas.{first_answers}
 use Rattle.bf_table.proofs.table_runner.entry_in_run.Goals as goal
 

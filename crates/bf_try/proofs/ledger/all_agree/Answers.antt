@@ -1,7 +1,7 @@
 use Rattle.std.proofs.Common.{refl, sym, ◌∙◌, subst, true≢false}
 use Rattle.std.specs.Map.Iter.{deref_pair}
 use Rattle.std.proofs.lemmas.Map.Iter.{iter_turn, rest_more, rest_all}
-use Rattle.bf_try.specs.Tries.{Agree}
+use Rattle.bf_try.specs.inner.Tries.{Agree}
 use Rattle.bf_try.proofs.Maps.{all_seen, all_where_rest, one_differs}
 use Rattle.bf_try.proofs.ledger.all_agree.Goals as goal
 

@@ -5,8 +5,9 @@ use Rattle.bf_command_fault.proofs.Leaving.{send_leaves}
 use Rattle.bf_disk.specs.Files.{IsReadable}
 use Rattle.bf_explain.specs.declared.paths.Paths.{Paths}
 use Rattle.bf_input.specs.Moments.{IsNoMoment, Means}
-use Rattle.bf_input.specs.Inputs.{IsReadOf, IsReportFault}
-use Rattle.bf_views.specs.ExplainFaults.{IsFaultOfAsked}
+use Rattle.bf_input.specs.Inputs.{IsReportFault}
+use Rattle.bf_input.specs.inner.Inputs.{IsReadOf}
+use Rattle.bf_views.specs.inner.ExplainFaults.{IsFaultOfAsked}
 use Rattle.bf_views.specs.Explanations.{IsExplanation}
 use Rattle.bf_views.specs.Planned.{IsPlanningFault}
 use Rattle.bf_views.proofs.ExplainEnds.{asked_explains, explain_answer, memory_explains, planning_explains, report_explains, unmeant, unmeant_leaves, writing_explains}

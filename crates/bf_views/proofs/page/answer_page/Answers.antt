@@ -3,11 +3,13 @@ use Rattle.bf_plan.specs.declared.plan.Dag.{Dag}
 use Rattle.bf_command_fault.specs.declared.status.Status.{Status}
 use Rattle.bf_command_fault.proofs.Leaving.{leaves_due}
 use Rattle.bf_disk.specs.Files.{AreReadable, Files, IsHeldIfNamed, IsReadable, named_paths}
-use Rattle.bf_input.specs.Inputs.{IsReadOf, IsReportFault}
+use Rattle.bf_input.specs.Inputs.{IsReportFault}
+use Rattle.bf_input.specs.inner.Inputs.{IsReadOf}
 use Rattle.bf_views.specs.Matching.{intervals_in, is_of_graph}
 use Rattle.bf_views.specs.Pages.{IsPage, PageWords, journal_path}
-use Rattle.bf_views.specs.Refused.{IsRefusedBy}
-use Rattle.bf_views.specs.Times.{AreTimesTold, IsNamedJournalFault}
+use Rattle.bf_views.specs.inner.Refused.{IsRefusedBy}
+use Rattle.bf_views.specs.Times.{AreTimesTold}
+use Rattle.bf_views.specs.inner.Times.{IsNamedJournalFault}
 use Rattle.bf_views.proofs.PageEnds.{err_is, journal_page, page_answer, refusal_page, report_page, writing_page}
 use Rattle.bf_views.proofs.ReportedEnds.{unwritten_leaves}
 use Rattle.bf_views.proofs.page.answer_page.Goals as goal

@@ -5,10 +5,11 @@ use Rattle.bf_command_fault.specs.declared.status.Status.{Status}
 use Rattle.bf_command_fault.proofs.Leaving.{leaves_due}
 use Rattle.bf_disk.specs.Files.{IsReadable}
 use Rattle.bf_grid.specs.Grid.{grid_text}
-use Rattle.bf_input.specs.Inputs.{IsReadOf, IsReportFault}
+use Rattle.bf_input.specs.Inputs.{IsReportFault}
+use Rattle.bf_input.specs.inner.Inputs.{IsReadOf}
 use Rattle.bf_views.specs.Matching.{is_of_graph}
 use Rattle.bf_views.specs.Planned.{IsPlanningFault}
-use Rattle.bf_views.specs.Refused.{IsRefusedBy}
+use Rattle.bf_views.specs.inner.Refused.{IsRefusedBy}
 use Rattle.bf_views.proofs.GridEnds.{grid_answer, reported_fault, reversed_fault, reversed_leaves, unmeant_fault, unmeant_leaves}
 use Rattle.bf_views.proofs.PageEnds.{fails}
 use Rattle.bf_views.proofs.ReportedEnds.{planning_fault, refusal_fault, report_fault, unwritten_leaves, writing_fault}

@@ -1,5 +1,6 @@
 use Rattle.std.proofs.Common.{length}
-use Rattle.bf_waiting.specs.Classes.{AreReleased, IsRoomy}
+use Rattle.bf_waiting.specs.Classes.{IsRoomy}
+use Rattle.bf_waiting.specs.inner.Classes.{AreReleased}
 use Rattle.bf_waiting.proofs.class.batch_due_delays.Given as goal
 
 abbrev pub invariant-loop-delay : goal.invariant-loop-delay_instance

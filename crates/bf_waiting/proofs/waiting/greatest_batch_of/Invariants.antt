@@ -1,4 +1,4 @@
-use Rattle.bf_waiting.specs.Looks.{IsBestTo}
+use Rattle.bf_waiting.specs.inner.Looks.{IsBestTo}
 use Rattle.bf_waiting.proofs.waiting.greatest_batch_of.Given as goal
 
 abbrev pub invariant-loop-class : goal.invariant-loop-class

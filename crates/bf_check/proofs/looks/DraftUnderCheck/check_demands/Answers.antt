@@ -4,7 +4,7 @@ use Rattle.bf_read.specs.declared.draft.TaskDraft.{TaskDraft}
 use Rattle.bf_check.specs.declared.fault.TaskFault.TheVariants.{SlotsBeyondPool}
 use Rattle.bf_check.specs.declared.pools.TaskPool.{TaskPool}
 use Rattle.bf_check.specs.Checking.{demand_in, pools_in}
-use Rattle.bf_check.specs.Looks.{demand_from, pool_named_of, IsPlaceOfFirst}
+use Rattle.bf_check.specs.inner.Looks.{demand_from, pool_named_of, IsPlaceOfFirst}
 use Rattle.bf_check.specs.Refusals.{takes_too_much}
 use Rattle.bf_check.proofs.FaultLemmas.{told_by_pairs}
 use Rattle.bf_check.proofs.ListLemmas.{each_made}

@@ -4,7 +4,7 @@ use Rattle.bf_read.specs.declared.draft.PoolDraft.{PoolDraft}
 use Rattle.bf_read.specs.declared.draft.TaskDraft.{TaskDraft}
 use Rattle.bf_check.specs.declared.fault.TaskFault.TheVariants.{UnknownPool}
 use Rattle.bf_check.specs.Checking.{pool_number, pools_in}
-use Rattle.bf_check.specs.Looks.{pool_named_of, with_size}
+use Rattle.bf_check.specs.inner.Looks.{pool_named_of, with_size}
 use Rattle.bf_check.specs.Refusals.{has_unknown_pool}
 use Rattle.bf_check.proofs.FaultLemmas.{told_by_each}
 use Rattle.bf_check.proofs.ListLemmas.{none_mapped}

@@ -3,7 +3,7 @@ use Rattle.std.proofs.lemmas.Result.{IfOk-weaker}
 use Rattle.bf_graph.specs.Edges.{lists, AreInRange}
 use Rattle.bf_check.specs.declared.fault.TaskFault.TheVariants.{UnknownUpstream}
 use Rattle.bf_check.specs.declared.pulls.Pulls.{Pulls}
-use Rattle.bf_check.specs.Looks.{pulls_in}
+use Rattle.bf_check.specs.inner.Looks.{pulls_in}
 use Rattle.bf_check.proofs.PlanLemmas.{settling_in_range}
 use Rattle.bf_check.proofs.PullLemmas.{all_may_pull, pulls_are, pulls_told}
 use Rattle.bf_check.proofs.looks.DraftUnderCheck.check_pulls.Goals as goal

@@ -2,7 +2,7 @@ use Rattle.std.proofs.Common.{ℕ, Global, Option, Vec, is_none, ap, ◌∙◌}
 use Rattle.std.proofs.lemmas.List.{map-id}
 use Rattle.std.proofs.lemmas.Result.{IfOk-weaker}
 use Rattle.bf_check.specs.declared.fault.TaskFault.TheVariants.{ExpandSource}
-use Rattle.bf_check.specs.Looks.{source_found, source_in}
+use Rattle.bf_check.specs.inner.Looks.{source_found, source_in}
 use Rattle.bf_check.specs.Refusals.{expands_no_upstream}
 use Rattle.bf_check.proofs.FaultLemmas.{told_by_each}
 use Rattle.bf_check.proofs.ListLemmas.{each_found, given_by_test, none_by_test}

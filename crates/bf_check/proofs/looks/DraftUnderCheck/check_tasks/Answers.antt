@@ -1,5 +1,5 @@
 use Rattle.std.proofs.Common.{List, ℕ, map, ap, ◌∙◌}
-use Rattle.bf_check.specs.Looks.{pulls_in, source_in}
+use Rattle.bf_check.specs.inner.Looks.{pulls_in, source_in}
 use Rattle.bf_check.proofs.looks.DraftUnderCheck.check_tasks.Goals as goal
 
 pub returns-clause-found : goal.returns-clause-found

@@ -4,7 +4,7 @@ use Rattle.bf_graph.specs.Edges.{lists}
 use Rattle.bf_read.specs.declared.draft.TaskDraft.{TaskDraft}
 use Rattle.bf_check.specs.declared.fault.TaskFault.TheVariants.{UnknownUpstream}
 use Rattle.bf_check.specs.Checking.{ids_of, number_or_0}
-use Rattle.bf_check.specs.Looks.{numbers_in}
+use Rattle.bf_check.specs.inner.Looks.{numbers_in}
 use Rattle.bf_check.specs.Refusals.{has_unknown_upstream}
 use Rattle.bf_check.proofs.FaultLemmas.{told_by_each}
 use Rattle.bf_check.proofs.ListLemmas.{each_found, map_then, none_by_test, none_mapped}

@@ -3,7 +3,7 @@ use Rattle.std.proofs.lemmas.List.{length-append}
 use Rattle.std.proofs.lemmas.Option.{slice_get_read}
 use Rattle.bf_read.specs.declared.draft.TaskDraft.{TaskDraft}
 use Rattle.bf_check.specs.declared.pulls.Pulls.{Pulls}
-use Rattle.bf_check.specs.Looks.{IsFoundOfPulls}
+use Rattle.bf_check.specs.inner.Looks.{IsFoundOfPulls}
 use Rattle.bf_check.proofs.ListLemmas.{each_pushed}
 use Rattle.bf_check.proofs.looks.DraftUnderCheck.pulls_of_each.Goals as goal
 

@@ -1,7 +1,7 @@
 use Rattle.std.proofs.Common.{◌≡◌, ℕ, length, Option, Some, slice_get}
 use Rattle.bf_read.specs.declared.draft.TaskDraft.{TaskDraft}
 use Rattle.bf_check.specs.declared.pulls.Pulls.{Pulls}
-use Rattle.bf_check.specs.Looks.{IsFoundOfPulls}
+use Rattle.bf_check.specs.inner.Looks.{IsFoundOfPulls}
 use Rattle.bf_check.proofs.looks.DraftUnderCheck.pulls_of_each.Given as goal
 
 abbrev pub invariant-loop-t : goal.invariant-loop-t

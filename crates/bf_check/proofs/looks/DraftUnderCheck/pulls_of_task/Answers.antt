@@ -4,7 +4,7 @@ use Rattle.bf_graph.specs.Reach.{Reaches}
 use Rattle.bf_read.specs.declared.draft.TaskDraft.{TaskDraft}
 use Rattle.bf_read.specs.Drafts.{pulled_in}
 use Rattle.bf_check.specs.Checking.{ids_of}
-use Rattle.bf_check.specs.Looks.{numbers_in, settling_upstreams}
+use Rattle.bf_check.specs.inner.Looks.{numbers_in, settling_upstreams}
 use Rattle.bf_check.proofs.NumberLemmas.{all_known, numbers_within}
 use Rattle.bf_check.proofs.PullLemmas.{may_pull_all, unknown_unsettled, unreaching_unsettled}
 use Rattle.bf_check.proofs.looks.DraftUnderCheck.pulls_of_task.Goals as goal

@@ -1,7 +1,7 @@
 use Rattle.std.proofs.Common.{List, get_or, length, ap, ◌∙◌, arith}
 use Rattle.std.proofs.lemmas.Option.{get_or_from_slice_get, slice_get_within}
 use Rattle.bf_read.specs.declared.draft.TaskDraft.{TaskDraft}
-use Rattle.bf_check.specs.Looks.{IsFirstAt}
+use Rattle.bf_check.specs.inner.Looks.{IsFirstAt}
 use Rattle.bf_check.proofs.looks.DraftUnderCheck.refuse_at.Goals as goal
 
 pub returns-in_ok-id-in-Some-clause-err : goal.returns-in_ok-id-in-Some-clause-err

@@ -5,7 +5,7 @@ use Rattle.bf_rule.specs.declared.rule.Rule.{Rule}
 use Rattle.bf_rule.specs.Verdicts.{is_waiting}
 use Rattle.bf_check.specs.declared.fault.TaskFault.TheVariants.{ExpandRule}
 use Rattle.bf_check.specs.Checking.{rule_of}
-use Rattle.bf_check.specs.Looks.{IsPlaceOfFirst}
+use Rattle.bf_check.specs.inner.Looks.{IsPlaceOfFirst}
 use Rattle.bf_check.specs.Refusals.{expands_early}
 use Rattle.bf_check.proofs.FaultLemmas.{told_by_pairs}
 use Rattle.bf_plan.proofs.ListLemmas.{some_same}

@@ -1,7 +1,7 @@
 use Rattle.std.proofs.Common.{position, ap, refl, sym, ◌∙◌, subst}
 use Rattle.std.proofs.lemmas.Result.{IfOk-weaker}
 use Rattle.bf_check.specs.declared.fault.TaskFault.TheVariants.{BranchMisuse}
-use Rattle.bf_check.specs.Looks.{IsPlaceOfFirst}
+use Rattle.bf_check.specs.inner.Looks.{IsPlaceOfFirst}
 use Rattle.bf_check.specs.Refusals.{expands_branch}
 use Rattle.bf_check.proofs.FaultLemmas.{told_by_each, no_fault}
 use Rattle.bf_check.proofs.looks.DraftUnderCheck.refuse_expanded_branches.Goals as goal

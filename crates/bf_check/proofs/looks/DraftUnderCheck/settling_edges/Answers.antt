@@ -4,7 +4,7 @@ use Rattle.bf_graph.specs.Edges.{lists, upstreams_of}
 use Rattle.bf_graph.specs.Shape.{Shape}
 use Rattle.bf_rule.specs.declared.rule.Rule.{Rule}
 use Rattle.bf_check.specs.Checking.{rule_of}
-use Rattle.bf_check.specs.Looks.{settling_upstreams}
+use Rattle.bf_check.specs.inner.Looks.{settling_upstreams}
 use Rattle.bf_check.proofs.PullLemmas.{settling_more}
 use Rattle.bf_check.proofs.looks.DraftUnderCheck.settling_edges.Goals as goal
 

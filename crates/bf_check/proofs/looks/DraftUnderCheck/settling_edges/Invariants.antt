@@ -1,6 +1,6 @@
 use Rattle.std.proofs.Common.{◌≡◌, map, take}
 use Rattle.bf_graph.specs.Edges.{lists}
-use Rattle.bf_check.specs.Looks.{settling_upstreams}
+use Rattle.bf_check.specs.inner.Looks.{settling_upstreams}
 use Rattle.bf_check.proofs.looks.DraftUnderCheck.settling_edges.Given as goal
 
 abbrev pub invariant-loop-t : goal.invariant-loop-t

@@ -2,7 +2,7 @@ use Rattle.std.proofs.Common.{◌≡◌, ◌<◌, ℕ, List, get_or, length, map
 use Rattle.std.proofs.lemmas.List.{length-map}
 use Rattle.bf_read.specs.declared.draft.TaskDraft.{TaskDraft}
 use Rattle.bf_check.specs.Checking.{number_or_0}
-use Rattle.bf_check.specs.Looks.{source_found}
+use Rattle.bf_check.specs.inner.Looks.{source_found}
 use Rattle.bf_check.proofs.ListLemmas.{map_more}
 use Rattle.bf_check.proofs.TaskLemmas.{upstreams_at}
 use Rattle.bf_check.proofs.looks.DraftUnderCheck.sources_of_each.Goals as goal

@@ -1,5 +1,5 @@
 use Rattle.std.proofs.Common.{◌≡◌, map, take}
-use Rattle.bf_check.specs.Looks.{source_found}
+use Rattle.bf_check.specs.inner.Looks.{source_found}
 use Rattle.bf_check.proofs.looks.DraftUnderCheck.sources_of_each.Given as goal
 
 abbrev pub invariant-loop-t : goal.invariant-loop-t

@@ -1,7 +1,7 @@
 use Rattle.std.proofs.Common.{◌≡◌, List, sym, ap, ◌∙◌}
 use Rattle.std.specs.List.{list_all}
 use Rattle.bf_core.specs.Terms.{Run}
-use Rattle.bf_core.specs.Events.{is_closed}
+use Rattle.bf_core.specs.inner.Events.{is_closed}
 use Rattle.bf_core.proofs.Closing.{ended_from, ended_back}
 use Rattle.bf_core.proofs.machine.Core.is_ended.Goals as goal
 

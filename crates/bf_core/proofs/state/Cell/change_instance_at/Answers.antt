@@ -1,7 +1,7 @@
 use Rattle.std.proofs.Common.{ap, IsSome}
 use Rattle.bf_core.specs.Terms.{Cell}
 use Rattle.bf_core.specs.Events.{instance_of}
-use Rattle.bf_core.specs.Tries.{changed}
+use Rattle.bf_core.specs.inner.Tries.{changed}
 use Rattle.bf_core.proofs.Placing.{changed_set, some_below}
 use Rattle.bf_core.proofs.state.Cell.change_instance_at.Goals as goal
 

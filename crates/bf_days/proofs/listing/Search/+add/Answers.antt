@@ -2,7 +2,8 @@ use Rattle.std.proofs.Common.{◌≡◌, ◌++◌, ◌+◌, ◌-◌, ◌/◌, �
 use Rattle.jiff.specs.Words.{plain_zone}
 use Rattle.bf_interval.specs.declared.fault.IntervalFault.{IntervalFault}
 use Rattle.bf_interval.specs.declared.fault.IntervalFault.TheVariants.{TooManyRuns}
-use Rattle.bf_days.specs.Listing.{are_on, AreIntervalsBetween, IsAddFault, IsKeptFault}
+use Rattle.bf_days.specs.Listing.{AreIntervalsBetween}
+use Rattle.bf_days.specs.inner.Listing.{are_on, IsAddFault, IsKeptFault}
 use Rattle.bf_days.proofs.Keeping.{added, not_added, two_from, on_ok, if_err}
 use Rattle.bf_days.proofs.listing.Search.+add.Goals as goal
 

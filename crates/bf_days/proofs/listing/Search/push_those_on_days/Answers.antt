@@ -1,7 +1,7 @@
 use Rattle.std.proofs.Common.{◌≡◌, ◌+◌, length, arith, rules, sym, ◌∙◌}
 use Rattle.std.proofs.lemmas.Grind.{common_steps}
 use Rattle.jiff.specs.Words.{plain_zone}
-use Rattle.bf_days.specs.Listing.{are_on}
+use Rattle.bf_days.specs.inner.Listing.{are_on}
 use Rattle.bf_days.proofs.Keeping.{one_too_many}
 use Rattle.bf_days.proofs.listing.Search.push_those_on_days.Goals as goal
 

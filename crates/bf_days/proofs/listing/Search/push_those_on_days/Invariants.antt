@@ -1,7 +1,7 @@
 use Rattle.std.proofs.Common.{◌≡◌, ◌++◌, ◌≤◌, length, take}
 use Rattle.std.specs.List.{filter}
 use Rattle.jiff.specs.Words.{plain_zone}
-use Rattle.bf_days.specs.Listing.{are_on}
+use Rattle.bf_days.specs.inner.Listing.{are_on}
 use Rattle.bf_days.proofs.listing.Search.push_those_on_days.Given as goal
 
 abbrev pub invariant-loop-interval : goal.invariant-loop-interval

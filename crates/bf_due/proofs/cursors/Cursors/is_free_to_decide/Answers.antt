@@ -1,6 +1,6 @@
 use Rattle.std.proofs.Common.{◌<◌, ℕ, Bool, List, length, ap, subst, arith}
 use Rattle.bf_core.proofs.Numbers.{lt_from}
-use Rattle.bf_due.specs.Cursors.{Awaits}
+use Rattle.bf_due.specs.inner.Cursors.{Awaits}
 use Rattle.bf_due.proofs.Reached.{awaits_not_due}
 use Rattle.bf_due.proofs.cursors.Cursors.is_free_to_decide.Goals as goal
 

@@ -1,6 +1,7 @@
 use Rattle.std.proofs.Common.{List, subst}
 use Rattle.bf_due.specs.declared.agenda.Step.{Step}
-use Rattle.bf_due.specs.Dues.{HasAdded, IsOpening}
+use Rattle.bf_due.specs.Dues.{HasAdded}
+use Rattle.bf_due.specs.inner.Dues.{IsOpening}
 use Rattle.bf_due.proofs.Keeping.{starts}
 use Rattle.bf_due.proofs.due.Due.new.Goals as goal
 

@@ -1,8 +1,8 @@
 use Rattle.std.proofs.Common.{◌≢◌, ◌<◌, List, Option, ℕ, None, false, length, get_or, ap, sym, ◌∙◌, subst, arith}
 use Rattle.std.proofs.lemmas.List.{get_or_default}
 use Rattle.bf_graph.specs.Edges.{lists}
-use Rattle.bf_graph.specs.Ranks.{rank_at, unranked}
-use Rattle.bf_graph.specs.Climbs.{IsClimb}
+use Rattle.bf_graph.specs.inner.Ranks.{rank_at, unranked}
+use Rattle.bf_graph.specs.inner.Climbs.{IsClimb}
 use Rattle.bf_graph.proofs.RankLemmas.{in_range_read, unranked_set}
 use Rattle.bf_graph.proofs.ReachingLemmas.{unmarked_in_set}
 use Rattle.bf_graph.proofs.ClimbLemmas.{keeps_rank, still_marked, none_unranked, taken_off, are_read, next_above, down_one, up_one, closes}

@@ -1,7 +1,7 @@
 use Rattle.std.proofs.Common.{◌≡◌, ◌+◌, true}
-use Rattle.bf_graph.specs.Climbs.{IsClimbing, KeepsRanks}
-use Rattle.bf_graph.specs.Cycles.{unmarked_in}
-use Rattle.bf_graph.specs.Ranks.{unranked}
+use Rattle.bf_graph.specs.inner.Climbs.{IsClimbing, KeepsRanks}
+use Rattle.bf_graph.specs.inner.Cycles.{unmarked_in}
+use Rattle.bf_graph.specs.inner.Ranks.{unranked}
 use Rattle.bf_graph.specs.Reach.{is_marked_in}
 use Rattle.bf_graph.proofs.climb.Climb.rank_with_ancestors.Given as goal
 

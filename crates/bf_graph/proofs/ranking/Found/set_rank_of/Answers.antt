@@ -1,6 +1,6 @@
 use Rattle.std.proofs.Common.{List, Option, ℕ, length, refl, ap, sym, ◌∙◌, subst, arith}
 use Rattle.std.proofs.lemmas.List.{length-set}
-use Rattle.bf_graph.specs.Ranks.{HasUnranked}
+use Rattle.bf_graph.specs.inner.Ranks.{HasUnranked}
 use Rattle.bf_graph.specs.Reach.{rows_of, row_at}
 use Rattle.bf_graph.proofs.RankLemmas.{one_ranked, in_range_read, upstreams_read, is_upstream, next_read}
 use Rattle.bf_graph.proofs.ReachLemmas.{joined_right, full_rows, more_rows, joins_read}

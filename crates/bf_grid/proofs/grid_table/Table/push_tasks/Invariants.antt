@@ -1,6 +1,6 @@
 use Rattle.std.proofs.Common.{◌≡◌, ◌++◌, take}
 use Rattle.std.specs.List.{flat_map}
-use Rattle.bf_grid.specs.GridTables.{row_in}
+use Rattle.bf_grid.specs.inner.GridTables.{row_in}
 use Rattle.bf_grid.proofs.grid_table.Table.push_tasks.Given as goal
 
 abbrev pub invariant-loop-task : goal.invariant-loop-task

@@ -2,7 +2,8 @@ use Rattle.std.proofs.Common.{◌≡◌, ℕ, List, ◌++◌, OnOk, string_bytes
 use Rattle.serde_json.specs.Data.{unsigned}
 use Rattle.bf_show.specs.JsonLines.{ended_members, instance_members, line}
 use Rattle.bf_show.specs.declared.key.Key.TheVariants.{Index}
-use Rattle.bf_show.specs.Pieces.{key_text, line_end}
+use Rattle.bf_show.specs.Pieces.{key_text}
+use Rattle.bf_show.specs.inner.Pieces.{line_end}
 use Rattle.bf_show.proofs.LineFacts.{instance_more}
 use Rattle.bf_show.proofs.lines.RunLines.push_instance.Goals as goal
 

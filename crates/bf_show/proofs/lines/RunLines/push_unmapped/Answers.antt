@@ -3,7 +3,8 @@ use Rattle.serde_json.specs.Data.{negative}
 use Rattle.serde_json.specs.Written.{number_text}
 use Rattle.bf_show.specs.JsonLines.{ended_members, instance_members, line}
 use Rattle.bf_show.specs.declared.key.Key.TheVariants.{Index}
-use Rattle.bf_show.specs.Pieces.{key_text, line_end}
+use Rattle.bf_show.specs.Pieces.{key_text}
+use Rattle.bf_show.specs.inner.Pieces.{line_end}
 use Rattle.bf_show.proofs.LineFacts.{instance_more, minus_one}
 use Rattle.bf_show.proofs.lines.RunLines.push_unmapped.Goals as goal
 

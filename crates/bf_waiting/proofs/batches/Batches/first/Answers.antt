@@ -1,4 +1,5 @@
-use Rattle.bf_waiting.specs.Heaps.{Leads, batch_cmp}
+use Rattle.bf_waiting.specs.Heaps.{batch_cmp}
+use Rattle.bf_waiting.specs.inner.Heaps.{Leads}
 use Rattle.bf_waiting.proofs.HeapFacts.{bounded, leads}
 use Rattle.bf_waiting.proofs.batches.Batches.first.Goals as goal
 

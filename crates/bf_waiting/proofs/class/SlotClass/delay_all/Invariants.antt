@@ -1,6 +1,6 @@
 use Rattle.std.proofs.Common.{◌≡◌}
-use Rattle.bf_waiting.specs.Filling.{Before}
-use Rattle.bf_waiting.specs.Keeping.{HasDelayed}
+use Rattle.bf_waiting.specs.inner.Filling.{Before}
+use Rattle.bf_waiting.specs.inner.Keeping.{HasDelayed}
 use Rattle.bf_waiting.proofs.class.SlotClass.delay_all.Given as goal
 
 abbrev pub invariant-loop-place : goal.invariant-loop-place

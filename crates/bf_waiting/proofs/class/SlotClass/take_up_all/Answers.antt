@@ -1,7 +1,7 @@
 use Rattle.std.proofs.Common.{◌∙◌, List, sym, subst₂}
 use Rattle.bf_waiting.specs.declared.batches.Batch.{Batch}
 use Rattle.bf_waiting.specs.declared.delays.Delay.{Delay}
-use Rattle.bf_waiting.specs.Keeping.{Anywhere, HasDelayed, HasTakenUp}
+use Rattle.bf_waiting.specs.inner.Keeping.{Anywhere, HasDelayed, HasTakenUp}
 use Rattle.bf_waiting.proofs.FillFacts.{fill_more}
 use Rattle.bf_waiting.proofs.class.SlotClass.take_up_all.Goals as goal
 

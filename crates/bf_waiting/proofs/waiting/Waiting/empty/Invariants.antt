@@ -1,4 +1,4 @@
-use Rattle.bf_waiting.specs.Filling.{AreClassedTo}
+use Rattle.bf_waiting.specs.inner.Filling.{AreClassedTo}
 use Rattle.bf_waiting.proofs.waiting.Waiting.empty.Given as goal
 
 abbrev pub invariant-loop-task : goal.invariant-loop-task

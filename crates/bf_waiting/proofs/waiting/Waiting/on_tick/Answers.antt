@@ -2,7 +2,7 @@ use Rattle.std.proofs.Common.{◌≡◌, ℕ, List, length, slice_get, Some, ap,
 use Rattle.std.proofs.lemmas.Int.{to_z-of_z}
 use Rattle.bf_core.specs.declared.event.Event.{Event}
 use Rattle.bf_waiting.specs.Classes.{Waits}
-use Rattle.bf_waiting.specs.Keeping.{KeepsOver}
+use Rattle.bf_waiting.specs.inner.Keeping.{KeepsOver}
 use Rattle.bf_waiting.proofs.Each.{AreEachKept, AreKeptTo, each_kept, got, one_more, ticked_over, whole}
 use Rattle.bf_waiting.proofs.waiting.Waiting.on_tick.Goals as goal
 

@@ -1,0 +1,4 @@
+pub mod Named
+pub mod CommandFaults
+pub mod Files
+pub mod Journals

@@ -1,0 +1,142 @@
+-- What is given of a journal that is opened, and what is told of it.
+use Rattle.std.specs.Prelude.{◌≡◌, ◌⊎◌, ℕ, Bool, List, [], Option, Some, None, Ok, string_bytes}
+use Rattle.bf_value.specs.declared.name.JobName.{JobName}
+use Rattle.bf_plan.specs.declared.plan.Dag.{Dag}
+use Rattle.bf_read.specs.declared.draft.Draft.{Draft}
+use Rattle.bf_check.specs.Checking.{dag_of}
+use Rattle.bf_interval.specs.declared.interval.Interval.{Interval}
+use Rattle.bf_xcom.specs.declared.values.Given.{Given}
+use Rattle.bf_try.specs.declared.answers.Raw.{Raw}
+use Rattle.bf_try.specs.Tries.{Ledger}
+use Rattle.bf_kept.specs.Kept.{nothing}
+use Rattle.bf_table.specs.declared.table.TableEntry.{TableEntry}
+use Rattle.bf_commands.specs.declared.cleared.ToClear.{ToClear}
+use Rattle.bf_report.specs.declared.report.Report.{Report}
+use Rattle.bf_command_line.specs.declared.forms.JournalAsked.{JournalAsked}
+use Rattle.bf_command_fault.specs.declared.fault.CommandFault.{CommandFault}
+use Rattle.bf_command_fault.specs.declared.fault.CommandFault.TheVariants.{CannotRead, CannotWriteFile, Journal as BadJournal, JournalInUse, OutOfMemory, Stopped}
+use Rattle.bf_command_fault.specs.declared.stop.StopFault.{StopFault}
+use Rattle.bf_planning.specs.declared.range.RunRange.{RunRange}
+use Rattle.bf_commands.specs.Cleared.{IsUncleared}
+use Rattle.bf_planning.specs.Graphs.{IsGraph}
+use Rattle.bf_commands.specs.Journaled.{Heading, IsClearedBy, JournalReportFault, IsJournaledAfter, IsJournalReport}
+use Rattle.bf_planning.specs.Lists.{HasListing, ListFault}
+use Rattle.bf_planning.specs.Wanting.{IsWanting}
+use Rattle.bf_process.specs.Words.{LaunchingOf}
+use Rattle.bf_commands.specs.Programs.{HearingTries, RunFault, Losing}
+use Rattle.bf_disk.specs.Files.{Files}
+use Rattle.bf_backfills.specs.Commands.{IsUnopened, OfJournal}
+use Rattle.bf_input.specs.Inputs.{IsReportFault}
+use Rattle.bf_input.specs.inner.Inputs.{IsReadOf}
+use Rattle.bf_backfills.specs.inner.Files.{IsFaultAfterFile, IsReportAfterFile}
+use Rattle.bf_disk.specs.declared.journals.OpenFault.{OpenFault}
+
+-- why there is no answer where a path's journal isn't open
+abbrev pub of_open : List ℕ → OpenFault → CommandFault
+of_open path OpenFault.CannotRead = CannotRead path
+of_open path OpenFault.InUse = JournalInUse
+of_open path OpenFault.OutOfMemory = OutOfMemory
+
+-- a journal that is asked for can't be opened: no bytes are told of it; or memory is wanting
+abbrev pub IsFaultOfOpening : Files → JournalAsked → CommandFault → Type 0
+IsFaultOfOpening journals asked (CannotRead path) =
+    (path ≡ string_bytes asked.path) × IsUnopened journals asked
+IsFaultOfOpening journals asked JournalInUse = IsUnopened journals asked
+IsFaultOfOpening journals asked OutOfMemory = Unit {0}
+IsFaultOfOpening journals asked fault = ⊥
+
+-- where a backfill ends with this fault that records its tries in the path's journal
+abbrev pub journaled_fault : List ℕ → CommandFault → CommandFault
+journaled_fault path (Stopped StopFault.CannotRecord) = CannotWriteFile path
+journaled_fault path fault = fault
+
+-- a journal that is asked for can't be opened or written; or the backfill that goes on from what it is told to hold has this fault
+abbrev pub IsFaultOver : Files → JournalAsked → Ledger → Heading → Option (List ℕ) → Dag
+    → List Interval → CommandFault → Type 0
+IsFaultOver journals asked before cleared logs dag found (CannotRead path) =
+    IsFaultOfOpening journals asked (CannotRead path)
+IsFaultOver journals asked before cleared logs dag found JournalInUse =
+    IsFaultOfOpening journals asked JournalInUse
+IsFaultOver journals asked before cleared logs dag found (CannotWriteFile path) =
+    path ≡ string_bytes asked.path
+IsFaultOver journals asked before cleared logs dag found (BadJournal fault) =
+    OfJournal journals asked (λ held. JournalReportFault asked.stop_after before asked.retry_failed
+    held cleared logs dag found (BadJournal fault))
+IsFaultOver journals asked before cleared logs dag found (Stopped StopFault.CannotRecord) = ⊥
+IsFaultOver journals asked before cleared logs dag found (Stopped stop) =
+    OfJournal journals asked (λ held. JournalReportFault asked.stop_after before asked.retry_failed
+    held cleared logs dag found (Stopped stop))
+IsFaultOver journals asked before cleared logs dag found fault = IsWanting fault
+
+-- the report of the backfill that goes on from what the journal is told to hold
+abbrev pub IsReportOver : Files → JournalAsked → Ledger → Heading → (JobName → Given → Raw → Type 0)
+    → Dag → List Interval → List ℕ → Bool → Type 0
+IsReportOver journals asked before cleared may_answer dag found text success =
+    OfJournal journals asked (λ held. IsJournalReport before asked.retry_failed held cleared
+    may_answer dag found text success)
+
+-- ---- of `run`
+
+-- the report of these bytes, and the first fault of them and of the journal
+abbrev pub IsFaultOfRecorded : Option (List ℕ) → Files → JournalAsked → RunRange → List ℕ
+    → Option (List ℕ) → CommandFault → Type 0
+IsFaultOfRecorded logs journals asked range graph zone fault = ListFault graph zone range fault
+    ⊎ ((draft : Draft) × (found : List Interval) × IsGraph graph zone draft
+    × HasListing graph zone range (Ok found)
+    × IsFaultOver journals asked nothing [] logs (dag_of draft) found fault)
+
+-- where no journal is named, the first fault of them
+abbrev pub IsFaultOfRunBy : LaunchingOf → Losing → Files → Option JournalAsked → RunRange → List ℕ
+    → Option (List ℕ) → CommandFault → Type 0
+IsFaultOfRunBy launching may_lose journals None range graph zone fault =
+    RunFault launching may_lose graph zone range fault
+IsFaultOfRunBy launching may_lose journals (Some asked) range graph zone fault =
+    IsFaultOfRecorded launching.logs journals asked range graph zone fault
+
+-- ---- of `clear`
+
+-- the report of the backfill that goes on from a journal, and else from that of a file where this is cleared
+pub record IsJournaledAfterFile (may_hear : HearingTries) (journals : Files)
+    (answers : Option (List TableEntry)) (dag : Dag) (found : List Interval)
+    (file : Option (Option (List ℕ))) (what : ToClear) (asked : JournalAsked) (text : List ℕ)
+    (success : Bool) : Type 0 where
+  pub was : Report
+  pub read : IsReadOf file was
+  pub reported : OfJournal journals asked
+      (λ held. IsJournaledAfter may_hear answers dag found was what asked.retry_failed held text
+      success)
+
+-- what is kept of a report where this is cleared, and the backfill that goes on from a journal and from that has this fault
+pub record GoesWrongAfter (logs : Option (List ℕ)) (journals : Files) (dag : Dag)
+    (found : List Interval) (was : Report) (what : ToClear) (asked : JournalAsked)
+    (fault : CommandFault) : Type 0 where
+  pub kept : Ledger
+  pub cleared : Heading
+  pub cleared_is : IsClearedBy dag found was what kept cleared
+  pub fault_is : IsFaultOver journals asked kept cleared logs dag found fault
+
+-- the fault of a report's file, or of what is cleared, or else of the backfill that goes on
+abbrev pub IsFaultSinceFile : Option (List ℕ) → Files → Dag → List Interval → List ℕ
+    → Option (Option (List ℕ)) → ToClear → JournalAsked → CommandFault → Type 0
+IsFaultSinceFile logs journals dag found path file what asked fault = IsReportFault path file fault
+    ⊎ ((was : Report) × IsReadOf file was
+    × (IsUncleared dag found was what fault
+    ⊎ GoesWrongAfter logs journals dag found was what asked fault))
+
+-- so it is where a journal is named; and where none is, without one
+abbrev pub IsReportAfterFileBy : HearingTries → Files → Option JournalAsked
+    → Option (List TableEntry) → Dag → List Interval → Option (Option (List ℕ)) → ToClear → List ℕ
+    → Bool → Type 0
+IsReportAfterFileBy may_hear journals None answers dag found file what text success =
+    IsReportAfterFile may_hear answers dag found file what text success
+IsReportAfterFileBy may_hear journals (Some asked) answers dag found file what text success =
+    IsJournaledAfterFile may_hear journals answers dag found file what asked text success
+
+abbrev pub IsFaultAfterFileBy : Bool → LaunchingOf → Losing → Files → Option JournalAsked
+    → Option (List TableEntry) → Dag → List Interval → List ℕ → Option (Option (List ℕ)) → ToClear
+    → CommandFault → Type 0
+IsFaultAfterFileBy alone launching may_lose journals None answers dag found path file what fault =
+    IsFaultAfterFile alone launching may_lose answers dag found path file what fault
+IsFaultAfterFileBy alone launching may_lose journals
+    (Some asked) answers dag found path file what fault = IsFaultSinceFile launching.logs journals
+    dag found path file what asked fault

@@ -1,0 +1,4 @@
+pub mod Entries
+pub mod Keeping
+pub mod Failing
+pub mod Aligning

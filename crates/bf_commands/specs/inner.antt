@@ -1,0 +1,5 @@
+pub mod Reported
+pub mod OverTable
+pub mod Programs
+pub mod Cleared
+pub mod Journaled

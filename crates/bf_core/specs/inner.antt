@@ -1,0 +1,5 @@
+pub mod Events
+pub mod Words
+pub mod Checks
+pub mod Tries
+pub mod Driven

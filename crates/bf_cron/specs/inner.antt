@@ -1,0 +1,2 @@
+pub mod Cron
+pub mod Minutes

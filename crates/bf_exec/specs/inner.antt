@@ -1,0 +1,5 @@
+pub mod Accounts
+pub mod Faults
+pub mod Shown
+pub mod Turns
+pub mod Starting

@@ -1,0 +1,8 @@
+-- What the lanes and the backfill have in common: the tries that run.
+use Rattle.std.specs.Prelude.{◌≡◌, List, [], ◌∷◌}
+use Rattle.bf_lane.specs.Open.{Scheduled, scheduled}
+
+-- nothing has gone over the lanes
+abbrev pub AreUnused : List Scheduled → Type 0
+AreUnused [] = Unit {0}
+AreUnused (lane ∷ lanes) = (lane ≡ scheduled [] []) × AreUnused lanes

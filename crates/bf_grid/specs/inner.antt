@@ -1,0 +1,2 @@
+pub mod FoundTasks
+pub mod GridTables

@@ -1,0 +1,4 @@
+pub mod Lines
+pub mod Tells
+pub mod Found
+pub mod Bare

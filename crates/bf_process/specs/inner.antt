@@ -1,0 +1,3 @@
+pub mod Output
+pub mod Environment
+pub mod Commands

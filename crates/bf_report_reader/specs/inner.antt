@@ -1,0 +1,12 @@
+pub mod Reads
+pub mod Held
+pub mod Lines
+pub mod Entries
+pub mod Parts
+pub mod Runs
+pub mod Beginning
+pub mod Lasts
+pub mod Rules
+pub mod Steps
+pub mod Extensions
+pub mod Faults

@@ -1,0 +1,41 @@
+-- Which entry of a table comes first of those that name the same.
+use Rattle.std.specs.Prelude.{ℕ, min, ℤ, pos, List, [], ◌∷◌, ◌++◌, Option, Some, None}
+use Rattle.bf_value.specs.declared.name.JobName.{JobName}
+use Rattle.bf_table.specs.declared.table_index.Pattern.{Pattern}
+
+-- the less of two numbers, where there are two
+abbrev pub earlier_place_of : Option ℕ → Option ℕ → Option ℕ
+earlier_place_of (Some a) (Some b) = Some (min a b)
+earlier_place_of (Some a) None = Some a
+earlier_place_of None b = b
+
+-- the earliest of what is found for these keys
+abbrev pub first_of_keys : (Pattern → Option ℕ) → List Pattern → Option ℕ
+first_of_keys get [] = None
+first_of_keys get (key ∷ keys) = earlier_place_of (get key) (first_of_keys get keys)
+
+-- what a try has of all that an entry may name
+abbrev pub pattern_of_try : ℕ → List ℕ → JobName → Pattern
+pattern_of_try task date name =
+    record {
+      task = Some task;
+      date = Some date;
+      index = Some name.index;
+      attempt = Some (pos name.attempt);
+    }
+
+-- the patterns of the entries that answer for a try: of each that the try has, an entry names it or names none
+abbrev pub keys_with_index : Pattern → Option ℕ → Option (List ℕ) → Option ℤ → List Pattern
+keys_with_index asked task date index =
+    record { task = task; date = date; index = index; attempt = None }
+    ∷ record { task = task; date = date; index = index; attempt = asked.attempt } ∷ []
+
+abbrev pub keys_with_date : Pattern → Option ℕ → Option (List ℕ) → List Pattern
+keys_with_date asked task date =
+    keys_with_index asked task date None ++ keys_with_index asked task date asked.index
+
+abbrev pub keys_with_task : Pattern → Option ℕ → List Pattern
+keys_with_task asked task = keys_with_date asked task None ++ keys_with_date asked task asked.date
+
+abbrev pub keys_of : Pattern → List Pattern
+keys_of asked = keys_with_task asked None ++ keys_with_task asked asked.task
