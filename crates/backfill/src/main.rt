@@ -10,11 +10,14 @@ use std::io::IsTerminal;
 use std::process::ExitCode;
 use std::{env, io};
 
-/// What Rust's `clap` says where a word is no UTF-8. The words of such a line can't be read, so `clap` isn't asked here.
+/// What Rust's `clap` says where a word is no UTF-8. The words of such a line can't be read, so `clap` isn't asked
+/// here.
 const NOT_UTF8: &str = "error: invalid UTF-8 was detected in one or more arguments
 
 For more information, try '--help'.";
 
+/// Answers the command line with the machine's files, clocks, threads and programs, and ends with the answer's
+/// status.
 fn main(rt: HostRuntime) -> ExitCode {
     let words = match words(&rt) {
         Ok(words) => words,
@@ -43,12 +46,12 @@ fn main(rt: HostRuntime) -> ExitCode {
     ExitCode::from(status)
 }
 
-/// The words of the command line, the program's own name first.
+/// The words of the command line, the program's own name first. An error where one isn't UTF-8 or memory is wanting.
 fn words(rt: &HostRuntime) -> io::Result<Vec<String>> {
     Ok(env::args(rt)?.collect(rt.alloc())?)
 }
 
-/// What standard output shows a grid on.
+/// What a grid on standard output looks like: whether that is a terminal, and what COLUMNS, NO_COLOR and TERM say.
 fn canvas(rt: &HostRuntime) -> Canvas {
     let columns = env::var(rt, "COLUMNS").ok();
     let no_color = env::var(rt, "NO_COLOR").ok();
@@ -61,7 +64,8 @@ fn canvas(rt: &HostRuntime) -> Canvas {
     )
 }
 
-/// Tells why the words can't be read. Where standard error fails, nothing is left to say so on.
+/// Writes to standard error why the words can't be read, and gives the exit status: refused where one isn't UTF-8,
+/// else a fault. Where that fails, nothing is left to say so on.
 fn tell_unreadable_words(rt: &HostRuntime, error: &io::Error) -> Status {
     if error.kind() == io::ErrorKind::InvalidData {
         let _ = eprintln!(rt; "{NOT_UTF8}");

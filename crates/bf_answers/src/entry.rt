@@ -20,7 +20,8 @@ const FAILED: u8 = 1;
 /// The status of a skipped one.
 const SKIPPED: u8 = 99;
 
-/// An instance: the start of its run as a report spells it, the id of its task, and its map index, where that is expanded.
+/// An instance: the start of its run as a report spells it, the id of its task, and its map index, where that is
+/// expanded.
 #[derive(Clone, Copy)]
 pub(crate) struct InstanceName<'a> {
     pub run: &'a str,
@@ -28,7 +29,7 @@ pub(crate) struct InstanceName<'a> {
     pub index: Option<usize>,
 }
 
-/// Adds a map index.
+/// Adds a map index in decimal, -1 for None.
 fn push_index(text: &mut String, index: Option<usize>) -> Result<(), OutOfMemory>
     ensures { OnOk result (string_bytes text.new ≡ string_bytes text.old
         ++ number_text (of_integer (number_of index))) }
@@ -40,7 +41,8 @@ fn push_index(text: &mut String, index: Option<usize>) -> Result<(), OutOfMemory
     Ok(())
 }
 
-/// Begins the entry of a try, by what it names.
+/// Adds the beginning of the entry of a try, `attempt` from 1: a comma, a line feed, and the members that name the
+/// try. The object stays open.
 fn push_entry_start(
     alloc: Global,
     text: &mut String,
@@ -63,7 +65,7 @@ fn push_entry_start(
     Ok(())
 }
 
-/// Adds the entry of a try that ended with a status.
+/// Adds the entry of a try, `attempt` from 1, that ended with this exit status, which isn't 0.
 fn push_status_entry(
     alloc: Global,
     text: &mut String,
@@ -83,7 +85,7 @@ fn push_status_entry(
     Ok(())
 }
 
-/// Adds the entry of a try that pushed a value.
+/// Adds the entry of a try, `attempt` from 1, that succeeded and pushed a value.
 fn push_value_entry(
     alloc: Global,
     text: &mut String,
@@ -102,7 +104,7 @@ fn push_value_entry(
     Ok(())
 }
 
-/// Adds the entry of a try that failed.
+/// Adds the entry of a try, `attempt` from 1, that failed, with the exit status 1.
 pub(crate) fn push_failed_entry(
     alloc: Global,
     text: &mut String,
@@ -116,7 +118,8 @@ pub(crate) fn push_failed_entry(
     push_status_entry(alloc, text, name, attempt, FAILED)
 }
 
-/// Adds the entry by which a try ends so, if it takes one.
+/// Adds the entry by which a try, `attempt` from 1, ends with this outcome; nothing for a success that pushed
+/// nothing, as a try without an entry ends so.
 pub(crate) fn push_outcome_entry(
     alloc: Global,
     text: &mut String,

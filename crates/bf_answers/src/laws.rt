@@ -25,7 +25,7 @@ ghost use Rattle.bf_answers.specs.TableText.{answers_text};
 
 use bf_moment::{long_form_is_what_is_written, moments_differ_in_text};
 
-/// What is written of a report that can be read is a table of just its entries, where it isn't too long for one.
+/// What is written of a report that can be read is a table of exactly its entries, where it isn't too long for one.
 pub fn tables_are_read_back()
     ensures { (report : Report) → IsShownReport report
         → length (answers_text report) ≤ longest_table
@@ -34,7 +34,7 @@ pub fn tables_are_read_back()
     long_form_is_what_is_written();
 }
 
-/// Over the table each try that the report tells of ends as it tells, where its task can end so.
+/// Over the table of a report each try in the report ends as it says, where the try's task can end so.
 pub fn tries_end_as_told()
     ensures { (dag : Dag) (intervals : List Interval) (report : Report)
         → IsShownReport report

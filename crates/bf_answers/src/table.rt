@@ -11,7 +11,7 @@ use bf_report::{InstanceReport, Report, RunReport, TaskReport};
 use bf_value::{OutOfMemory, Text};
 use std::alloc::Global;
 
-/// Adds the tries before the last.
+/// Adds an entry for each of an instance's `tries` but the last; these failed.
 fn push_retried(
     alloc: Global,
     text: &mut String,
@@ -28,6 +28,7 @@ fn push_retried(
     Ok(())
 }
 
+/// Adds the entries of all tries of an instance; nothing for a last try that succeeded and pushed nothing.
 fn push_instance(
     alloc: Global,
     text: &mut String,
@@ -43,6 +44,7 @@ fn push_instance(
     push_outcome_entry(alloc, text, name, ended.tries, &ended.outcome)
 }
 
+/// Adds the entries of all instances of an expanded task. `run` is the start of its run, `task` its id.
 fn push_mapped(
     alloc: Global,
     text: &mut String,
@@ -60,6 +62,7 @@ fn push_mapped(
     Ok(())
 }
 
+/// Adds the entries of a task in a run; nothing where it has no try. `run` is the start of the run, `task` its id.
 fn push_task(
     alloc: Global,
     text: &mut String,
@@ -82,6 +85,7 @@ fn push_task(
     }
 }
 
+/// Adds the entries of the tasks of a run, whose ids are `ids` in the same order. `run` is the start of the run.
 fn push_tasks(
     alloc: Global,
     text: &mut String,
@@ -98,6 +102,7 @@ fn push_tasks(
     Ok(())
 }
 
+/// Adds the entries of a run. `ids` are those of its tasks, in order.
 fn push_run(
     alloc: Global,
     text: &mut String,
@@ -112,6 +117,7 @@ fn push_run(
     push_tasks(alloc, text, start.as_str(), ids, run.tasks.as_slice())
 }
 
+/// Adds the entries of these runs. `ids` are those of the tasks, in order.
 fn push_runs(
     alloc: Global,
     text: &mut String,
@@ -127,7 +133,7 @@ fn push_runs(
     Ok(())
 }
 
-/// Puts the bracket that opens a list in the place of the first comma.
+/// The bytes of a text, the first of which, a comma, is replaced by the bracket that opens a list.
 fn with_opening_bracket(text: String) -> Vec<u8>
     requires { 0 < length (string_bytes text) }
     ensures { result.items ≡ 91 ∷ drop 1 (string_bytes text) }
@@ -137,7 +143,7 @@ fn with_opening_bracket(text: String) -> Vec<u8>
     bytes
 }
 
-/// The table that answers as a report tells.
+/// The table of answers, a list of JSON, over which each try ends as the report tells.
 pub(crate) fn json_table_of(alloc: Global, report: &Report) -> Result<Vec<u8>, OutOfMemory>
     ensures { IfOk result (λ bytes. bytes.items ≡ answers_text report.now) }
 {

@@ -8,8 +8,9 @@ use bf_device::{Cause, Write, WriteFault, send};
 use bf_report::Report;
 use std::alloc::Global;
 
-/// Writes the table that answers as a report tells. The whole text is made first, so want of memory is known before the first
-/// byte goes out. It gives up where a write fails or takes nothing, and at the 1,001st interruption.
+/// Writes the table of answers over which each try ends as a report tells. The whole text is made first, so want of
+/// memory is known before the first byte goes out. It gives up where a write fails or takes nothing, and at the
+/// 1,001st interruption.
 pub fn write_answers<W: Write>(
     alloc: Global,
     report: &Report,

@@ -15,14 +15,15 @@ use bf_planning::{GraphSize, check_graph};
 use bf_value::OutOfMemory;
 use std::alloc::Global;
 
-/// The line for standard output. There is no singular.
+/// The line that `check` prints, with its line feed, as `ok 3 tasks, 2 edges`. There is no singular.
 fn size_line(alloc: Global, size: GraphSize) -> Result<String, OutOfMemory>
     ensures { IfOk result (λ line. string_bytes line ≡ size_text size) }
 {
     Ok(format!(in alloc; "ok {} tasks, {} edges\n", size.tasks, size.edges)?)
 }
 
-/// Reads the files and checks the graph, and prints the size of its graph.
+/// Does the command `check`: reads the files, checks the graph, and writes how many tasks and edges it has. A fault
+/// where a file can't be read, or the graph has one.
 pub fn answer_check<S: Source, W: Write>(
     alloc: Global,
     asked: GraphAsked,

@@ -39,7 +39,7 @@ use std::sync::Wait;
 use std::thread::Threads;
 use std::time::Clock;
 
-/// The launcher that is named, where no table is.
+/// The launcher that is named, where no table is; None where one is, as a table starts no program.
 fn launcher_used<'a>(table: &Option<String>, launcher: &'a Option<String>) -> Option<&'a str>
     ensures { option_map (λ l. l.now) result ≡ launcher_used_of table.now launcher.entry.now }
 {
@@ -49,7 +49,7 @@ fn launcher_used<'a>(table: &Option<String>, launcher: &'a Option<String>) -> Op
     }
 }
 
-/// The files that are read before any is looked at, and what is to be cleared. The report isn't one of them.
+/// The files of `clear` that are read before any is checked, and what is to be cleared. The report isn't one of them.
 #[derive(Drop)]
 struct ClearFiles {
     graph: GraphFiles,
@@ -58,7 +58,7 @@ struct ClearFiles {
 }
 
 impl ClearFiles {
-    /// What the table holds, where there is one.
+    /// The bytes of the table's file; None where none was named.
     fn table(&self) -> Option<&[u8]>
         ensures { option_map (λ s. s.now) result ≡ bytes_of self.now.table }
     {
@@ -66,7 +66,8 @@ impl ClearFiles {
     }
 }
 
-/// Reads the graph file, and where they are named, in this order, the zone file, the table and the seeds file.
+/// Reads the graph file, and where they are named, in this order, the zone file, the table and the seeds file. What
+/// they hold isn't checked yet, and the report isn't read.
 fn read_clear_files<S: Source>(
     alloc: Global,
     graph: GraphAsked,
@@ -92,14 +93,15 @@ fn read_clear_files<S: Source>(
     Ok(ClearFiles { graph, table, what })
 }
 
-/// What the files say but for the report, and what is to be cleared.
+/// What the files of `clear` hold but for the report, and what is to be cleared.
 #[derive(Drop)]
 pub(crate) struct PreparedToClear {
     pub(crate) prepared: Prepared,
     pub(crate) what: ToClear,
 }
 
-/// Reads the files but for the report, and then looks at what they hold.
+/// Reads the graph, zone, table and seeds files that are named, and then checks graph, table and range. The report
+/// isn't read, and what is to be cleared isn't checked.
 pub(crate) fn read_and_prepare<S: Source>(
     alloc: Global,
     graph: GraphAsked,
@@ -134,7 +136,8 @@ pub(crate) fn read_and_prepare<S: Source>(
     })
 }
 
-/// Reads the report, and goes on from it where this is cleared. Says whether every run is a success.
+/// Reads the report at the path `report`, goes on from it with `what` cleared, and writes the new report; true where
+/// every run is a success. No journal is kept.
 fn resume_unrecorded<RT: Starter + Screen + Threads + Wait + Clock + Sync, S: Source, W: Write>(
     crew: &Crew<'_, RT>,
     prepared: Prepared,
@@ -166,7 +169,8 @@ fn resume_unrecorded<RT: Starter + Screen + Threads + Wait + Clock + Sync, S: So
     write_resumed_report(crew, prepared, report, what, out)
 }
 
-/// The same, where a journal is named: it is opened when what is cleared is known to be of the report.
+/// Reads the report at the path `report`, and opens the journal once `what` is known to be in it. Goes on with `what`
+/// cleared, records each other try, and writes the new report; true where every run is a success.
 fn resume_recorded<RT, J: Journals, S: Source, W: Write>(
     crew: &Crew<'_, RT>,
     prepared: Prepared,
@@ -204,7 +208,8 @@ where
     record_clearing(crew, &clearing, answers, journal, journals, out)
 }
 
-/// Goes on from a report, and from a journal where one is named.
+/// Reads the report at the path `report`, goes on from it with `what` cleared, and from a journal where one is named,
+/// and writes the new report; true where every run is a success.
 fn resume_report<RT, J: Journals, S: Source, W: Write>(
     crew: &Crew<'_, RT>,
     prepared: Prepared,
@@ -247,8 +252,8 @@ where
     }
 }
 
-/// The moments are looked at first, and then the launcher, where no table is named. Then the files are read but for the report, and
-/// only then what they hold is looked at; then the report is read, and what is to be cleared is looked for.
+/// Does the command `clear`, and writes the new report. The moments are checked first, then the launcher where no
+/// table is named, then the files but for the report, and then the report and what is to be cleared.
 pub fn answer_clear<
     RT: Starter + Screen + Threads + Wait + Clock + Sync,
     J: Journals + Launchers,

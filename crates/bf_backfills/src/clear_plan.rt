@@ -17,8 +17,8 @@ use bf_disk::Source;
 use bf_input::read_report_file;
 use std::alloc::Global;
 
-/// The moments are looked at first. Then the files are read but for the report, and only then what they hold is looked at; then the report
-/// is read, and what is to be cleared is looked for. No program is started, so no launcher is looked at.
+/// Does the command `clear --plan`: writes what would be cleared, and starts no program. The moments are checked
+/// first, then the files but for the report, and then the report.
 pub fn answer_clear_plan<S: Source, W: Write>(
     alloc: Global,
     asked: ClearPlanAsked,

@@ -19,7 +19,8 @@ use std::sync::Wait;
 use std::thread::Threads;
 use std::time::Clock;
 
-/// The moments are looked at first. Then the files are read, and only then what they hold is looked at.
+/// Does the command `dry`: runs a graph over a table's answers and writes the report. The moments are checked first;
+/// then the files are read, and only then is what they hold checked.
 pub fn answer_dry<RT: Starter + Screen + Threads + Wait + Clock + Sync, S: Source, W: Write>(
     rt: &RT,
     alloc: Global,

@@ -29,7 +29,7 @@ use std::sync::Wait;
 use std::thread::Threads;
 use std::time::Clock;
 
-/// Why there is no answer where a path's journal isn't open.
+/// The fault of a command whose journal, at this path, can't be opened.
 fn fault_of_opening(path: String, fault: OpenFault) -> CommandFault
     ensures { result ≡ of_open (string_bytes path) fault }
 {
@@ -40,7 +40,8 @@ fn fault_of_opening(path: String, fault: OpenFault) -> CommandFault
     }
 }
 
-/// What is told of the fault of a backfill that records its tries in a path's journal.
+/// The fault of a backfill with a journal at this path: that the file can't be written where a record couldn't be,
+/// else the fault itself.
 fn fault_at_journal(fault: CommandFault, path: String) -> CommandFault
     ensures { result ≡ journaled_fault (string_bytes path) fault }
 {
@@ -59,7 +60,8 @@ struct NamedJournal<D: Cuttable + Drop> {
     path: String,
 }
 
-/// Opens the journal that is asked for.
+/// Opens the journal that is asked for, or makes it, and locks it. A fault where it can't be opened, locked or read,
+/// or another backfill has it open.
 fn open_named_journal<J: Journals>(
     journals: &J,
     alloc: Global,
@@ -91,7 +93,8 @@ fn open_named_journal<J: Journals>(
     }
 }
 
-/// What `run` makes of its runs, where a journal is named.
+/// Opens the journal that is asked for, starts the programs of the tries that it doesn't keep, records these and
+/// writes the report; true where every run is a success.
 fn record_dated_run<RT, J: Journals, W>(
     crew: &Crew<'_, RT>,
     dated: &DatedPlan,
@@ -125,7 +128,8 @@ where
     }
 }
 
-/// The command `run` where a journal is named. That is opened when the range is known to have runs.
+/// Does the command `run` with a journal, which is opened once the range is known to have no fault: starts programs,
+/// records their tries and writes the report; true where every run is a success.
 fn record_run<RT, J: Journals, W>(
     crew: &Crew<'_, RT>,
     files: &GraphFiles,
@@ -158,7 +162,8 @@ where
     record_dated_run(crew, &dated, asked, journals, out)
 }
 
-/// What `run` makes of its files, and of a journal where one is named.
+/// Does the command `run` over files that were read: starts the programs, records their tries where a journal is
+/// named, and writes the report; true where every run is a success.
 pub(crate) fn write_run_report<RT, J: Journals, W>(
     crew: &Crew<'_, RT>,
     files: &GraphFiles,
@@ -194,7 +199,9 @@ where
     }
 }
 
-/// The command `clear` where a journal is named.
+/// Opens the journal that is asked for, goes on from it and else from what is kept of the report, records each other
+/// try, and writes the new report; true where every run is a success. A table answers these tries, or programs do
+/// where `answers` is None.
 pub(crate) fn record_clearing<RT, J: Journals, W>(
     crew: &Crew<'_, RT>,
     clearing: &Clearing<'_>,

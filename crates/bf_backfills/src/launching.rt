@@ -11,14 +11,14 @@ use bf_process::Launching;
 use bf_value::Text;
 use std::alloc::Global;
 
-/// The path that is named, where one is.
+/// The text of a path; None where none is named.
 pub(crate) fn path_named(path: &Option<String>) -> Option<&str>
     ensures { option_map (λ p. p.now) result ≡ option_map string_bytes path.entry.now }
 {
     path.as_deref()
 }
 
-/// Looks whether the launcher that is named can be started.
+/// Refuses a launcher that can't be started; does nothing where none is named. Nothing is started.
 pub(crate) fn refuse_unstartable_launcher<L: Launchers>(
     launchers: &L,
     alloc: Global,
@@ -39,7 +39,8 @@ pub(crate) fn refuse_unstartable_launcher<L: Launchers>(
     Err(CommandFault::CannotLaunch(path))
 }
 
-/// How programs are launched where this launcher and this folder of logs are named. What clocks show is left open.
+/// How programs are launched with this launcher and this folder of logs, None where not named; without the clocks of
+/// the runs.
 pub(crate) fn launching_asked<'a>(
     launcher: &'a Option<String>,
     logs: &'a Option<String>,
@@ -53,8 +54,8 @@ pub(crate) fn launching_asked<'a>(
     }
 }
 
-/// What is told without being asked for, where programs make the tries: progress on a terminal; which tries fail there, where
-/// progress is asked for, and where logs are kept; and nothing where all is to be quiet.
+/// What is told unasked where programs make the tries: progress on a terminal; failed tries on a terminal, with
+/// `progress`, and with logs; nothing where `quiet`. Contracts say only when nothing is told.
 pub(crate) fn tells_by_options<RT: Screen>(
     rt: &RT,
     by_programs: bool,

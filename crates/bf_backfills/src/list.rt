@@ -15,7 +15,8 @@ use bf_input::read_graph_files;
 use bf_planning::write_list;
 use std::alloc::Global;
 
-/// The moments are looked at first. Then the files are read, and only then what they hold is looked at.
+/// Does the command `list`: writes the data intervals that start in a range. The moments are checked first; then the
+/// files are read, and only then is what they hold checked.
 pub fn answer_list<S: Source, W: Write>(
     alloc: Global,
     asked: ListAsked,

@@ -25,7 +25,8 @@ pub(crate) enum UnreadToClear {
     Nothing,
 }
 
-/// The seed of a task, a run and maybe a map index.
+/// The seed that a command line names by a task, the start of a run, and maybe a map index. A fault where the start
+/// is no moment.
 fn seed_of(alloc: Global, asked: &SeedAsked) -> Result<Seed, CommandFault>
     ensures means { IfOk result (MeansSeed asked.now) }
     ensures bad { IfErr result (IsUnmeant (IsNoMoment (string_bytes asked.now.run))) }
@@ -39,6 +40,7 @@ fn seed_of(alloc: Global, asked: &SeedAsked) -> Result<Seed, CommandFault>
     })
 }
 
+/// Adds a seed behind those of `seeds`.
 fn add_seed(seeds: &mut Vec<Seed>, seed: Seed) -> Result<(), OutOfMemory>
     ensures { OnOk result (seeds.new.items ≡ seeds.old.items ++ seed ∷ []) }
 {
@@ -46,6 +48,7 @@ fn add_seed(seeds: &mut Vec<Seed>, seed: Seed) -> Result<(), OutOfMemory>
     Ok(())
 }
 
+/// The seeds that a command line names, in order. A fault where the run of one is no moment.
 fn seeds_of(alloc: Global, asked: &[SeedAsked]) -> Result<Vec<Seed>, CommandFault>
     ensures means { IfOk result (λ seeds. MeanSeeds asked.now seeds.items) }
     ensures bad { IfErr result (IsUnmeant (HasUnmeantRun asked.now)) }
@@ -58,7 +61,8 @@ fn seeds_of(alloc: Global, asked: &[SeedAsked]) -> Result<Vec<Seed>, CommandFaul
     Ok(seeds)
 }
 
-/// What the texts of a line mean. No file is read.
+/// What a command line asks to clear. A fault where the run of a seed is no moment. A seeds file is only named, and
+/// not read.
 pub(crate) fn to_clear_asked(
     alloc: Global,
     asked: &ClearedAsked,
@@ -77,7 +81,8 @@ pub(crate) fn to_clear_asked(
     }
 }
 
-/// What is to be cleared, by what the file holds where one is named.
+/// What is to be cleared, with the bytes of the seeds file where one is named. Reads no other file. A fault where it
+/// can't be read.
 pub(crate) fn read_to_clear<S: Source>(
     alloc: Global,
     named: UnreadToClear,

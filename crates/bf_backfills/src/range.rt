@@ -8,7 +8,8 @@ use bf_days::Days;
 use bf_input::moment_of;
 use bf_planning::{MomentRange, RunRange, Starts};
 
-/// Where data intervals start by one or two texts.
+/// Where the data intervals of a range start: between two moments, both included, or on days. A fault where a text
+/// says neither.
 fn starts_of(asked: &StartsAsked) -> Result<Starts, CommandFault>
     ensures means { IfOk result (MeansStarts asked.now) }
     ensures bad { IfErr result (λ f. (f ≡ CommandFault.BadMoment) × IsNoStarts asked.now) }
@@ -26,7 +27,7 @@ fn starts_of(asked: &StartsAsked) -> Result<Starts, CommandFault>
     }
 }
 
-/// The range that is asked for.
+/// The range of runs that a command line asks for. A fault where one of its texts is no moment, or no days.
 pub(crate) fn range_of(asked: &RangeAsked) -> Result<RunRange, CommandFault>
     ensures means { IfOk result (MeansRange asked.now) }
     ensures bad { IfErr result (λ f. (f ≡ CommandFault.BadMoment) × IsNoStarts asked.now.starts) }

@@ -23,7 +23,8 @@ use std::sync::Wait;
 use std::thread::Threads;
 use std::time::Clock;
 
-/// The moments are looked at first, and then the launcher. Then the files are read, and only then what they hold is looked at.
+/// Does the command `run`: starts the programs of the tasks, and writes the report. The moments are checked first,
+/// then the launcher; then the files are read, and only then is what they hold checked.
 pub fn answer_run<
     RT: Starter + Screen + Threads + Wait + Clock + Sync,
     J: Journals + Launchers,

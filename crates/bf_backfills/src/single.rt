@@ -18,7 +18,8 @@ use std::sync::Wait;
 use std::thread::Threads;
 use std::time::Clock;
 
-/// The moment is looked at first. Then the files are read, and only then what they hold is looked at.
+/// Does the command `single`: runs a graph once over a table's answers, and writes the report. The moment is checked
+/// first; then the files are read, and only then is what they hold checked.
 pub fn answer_single<RT: Starter + Screen + Threads + Wait + Clock + Sync, S: Source, W: Write>(
     rt: &RT,
     alloc: Global,

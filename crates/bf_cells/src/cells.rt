@@ -18,7 +18,8 @@ use bf_value::OutOfMemory;
 use bf_xcom::{RunState, TaskResult};
 use std::alloc::Global;
 
-/// The letter of each task of a run.
+/// Adds the letter of each task of a run, 0 for the first, without a line feed. `settled` are the tasks of the run
+/// and `before` those of the run before, none for the first.
 fn push_letters(
     text: &mut String,
     plan: &Plan,
@@ -40,7 +41,7 @@ fn push_letters(
     Ok(())
 }
 
-/// The letter of each instance.
+/// Adds the letter of each of these instances, nothing between them.
 fn push_instance_letters(text: &mut String, results: &[TaskResult]) -> Result<(), OutOfMemory>
     ensures { OnOk result (string_bytes text.new
         ≡ string_bytes text.old ++ map (λ ended. ended_letter_of ended.outcome ended.tries)
@@ -52,7 +53,7 @@ fn push_instance_letters(text: &mut String, results: &[TaskResult]) -> Result<()
     Ok(())
 }
 
-/// A word of the instances of a task, where it is expanded and ran.
+/// Adds a space and a letter for each instance of a task that is expanded and ran; nothing for another task.
 fn push_instances_word(text: &mut String, task: &Settled<'_>) -> Result<(), OutOfMemory>
     ensures { OnOk result (string_bytes text.new ≡ string_bytes text.old ++ word_behind task.now) }
 {
@@ -63,6 +64,7 @@ fn push_instances_word(text: &mut String, task: &Settled<'_>) -> Result<(), OutO
     Ok(())
 }
 
+/// Adds for each of these tasks that is expanded and ran a space and the letters of its instances.
 fn push_instances_words(text: &mut String, settled: &[Settled<'_>]) -> Result<(), OutOfMemory>
     ensures { OnOk result (string_bytes text.new
         ≡ string_bytes text.old ++ flat_map word_behind settled.now) }
@@ -73,6 +75,7 @@ fn push_instances_words(text: &mut String, settled: &[Settled<'_>]) -> Result<()
     Ok(())
 }
 
+/// The word for the state of a run, `success` or `failed`.
 fn run_state_word(state: RunState) -> &'static str
     ensures { result.now ≡ run_state_word_of state }
 {
@@ -82,7 +85,7 @@ fn run_state_word(state: RunState) -> &'static str
     }
 }
 
-/// When a run starts and ends, and its state.
+/// Adds the start, the end and the state of a run, a space behind each.
 fn push_interval_and_state(text: &mut String, run: &RunReport) -> Result<(), OutOfMemory>
     ensures { OnOk result (string_bytes text.new ≡ string_bytes text.old
         ++ (moment_text run.now.interval.start.nanosecond
@@ -96,6 +99,8 @@ fn push_interval_and_state(text: &mut String, run: &RunReport) -> Result<(), Out
     Ok(())
 }
 
+/// Adds the line of run `number`, 0 for the first, of a report, with its line feed: data interval, state, and letters
+/// of tasks and instances. `settled` are its tasks, `before` those of the run before, none for the first.
 fn push_row(
     text: &mut String,
     plan: &Plan,
@@ -118,7 +123,7 @@ fn push_row(
     Ok(())
 }
 
-/// A row for each run. What came of its tasks is worked out once, and kept for the next run.
+/// Adds the line of each run of a report, with its line feed.
 fn push_rows(
     alloc: Global,
     text: &mut String,
@@ -139,7 +144,8 @@ fn push_rows(
     Ok(())
 }
 
-/// The cells of a report of so many bytes. Each of its runs has the tasks of the graph, and none of these more than 1,024 instances.
+/// The cells of a report: a head line and a line for each run. `bytes` is the length of the report's text. Each run
+/// has the tasks of the graph, and none of these more than 1,024 instances.
 pub fn cells_of(
     alloc: Global,
     plan: &Plan,

@@ -32,7 +32,7 @@ pub fn own_letters_have_no_digit()
     own_reports_have_no_digit();
 }
 
-/// The cells of a report, whose dag id is an id and whose moments are whole seconds, stand on a page as they are.
+/// A page has the cells of a report unescaped, if its dag id is an id and its moments are whole seconds.
 pub fn cells_stand_as_they_are()
     ensures { (dag : Dag) (report : Report) (bytes : ℕ) → is_id_in report.dag_id ≡ true
         → HasWholeMoments report.runs →

@@ -85,13 +85,13 @@ refusal_number_of ExpandRule = 16
 refusal_number_of BranchMisuse = 17
 
 -- want of memory has no number
-abbrev pub check_number : CheckFault → Option ℕ
-check_number (Task fault id) = Some (refusal_number_of fault)
-check_number (Cycle ids) = Some 7
-check_number BadCron = Some 11
-check_number NeverFires = Some 12
-check_number BadZone = Some 13
-check_number OutOfMemory = None
+abbrev pub check_refusal_number_of : CheckFault → Option ℕ
+check_refusal_number_of (Task fault id) = Some (refusal_number_of fault)
+check_refusal_number_of (Cycle ids) = Some 7
+check_refusal_number_of BadCron = Some 11
+check_refusal_number_of NeverFires = Some 12
+check_refusal_number_of BadZone = Some 13
+check_refusal_number_of OutOfMemory = None
 
 -- the words of a task's fault
 abbrev pub task_fault_text : TaskFault → List ℕ

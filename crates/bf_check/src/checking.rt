@@ -47,7 +47,7 @@ struct Parts {
 
 // A look that refuses drops all that is held. So each of these holds little of it.
 impl DraftUnderCheck<'_> {
-    /// The looks 8 and 9: the limits.
+    /// The limits of a draft without the faults 1 to 7; refused for an unknown pool (8) or slots beyond it (9).
     fn check_limits(&self, alloc: Global) -> Result<Limits, CheckFault>
         requires { HasNoneBelow self.now.draft.now 8 }
         ensures limits { IfOk result (λ limits. limits ≡ limits_in self.now.draft.now) }
@@ -59,7 +59,8 @@ impl DraftUnderCheck<'_> {
         Ok(limits_of(alloc, self.draft, demands)?)
     }
 
-    /// The looks 14 to 17: what is found of each task.
+    /// The rule, pulls and source of each task of a draft without the faults 1 to 13, whose `rules` were found;
+    /// refused for the faults 14 to 17, of pulls and expansions.
     fn check_tasks(
         &self,
         alloc: Global,
@@ -86,7 +87,8 @@ impl DraftUnderCheck<'_> {
         })
     }
 
-    /// The looks 10 to 17.
+    /// The schedule, the zone and what is found of each task of a draft without the faults 1 to 9; refused for the
+    /// faults 10 to 17, of rules, the schedule, pulls and expansions.
     fn check_behind_limits(&self, alloc: Global, graph: &Graph) -> Result<Rest, CheckFault>
         requires graph { graph.now ≡ shape_in self.now.draft.now.tasks }
         requires below { HasNoneBelow self.now.draft.now 10 }
@@ -110,7 +112,7 @@ impl DraftUnderCheck<'_> {
         })
     }
 
-    /// All looks in the order of their numbers.
+    /// All that a plan needs beside the draft itself, or of the draft's faults the one of the least number.
     fn check_all(&self, alloc: Global) -> Result<Parts, CheckFault>
         ensures found { IfOk result (λ parts. AreFoundIn self.now.draft.now.tasks parts.graph
             parts.rest.found) }
@@ -136,7 +138,7 @@ impl DraftUnderCheck<'_> {
     }
 }
 
-/// The tasks of a draft, of what was found of each.
+/// The dag of a plan: the draft's id, and its tasks joined with what was found of each.
 fn dag_of_found(
     alloc: Global,
     draft: Draft,
@@ -161,7 +163,7 @@ fn dag_of_found(
     })
 }
 
-/// The plan of a draft that was looked through, and the zone of its schedule.
+/// The plan of a draft without faults, put together from what its check found, and the zone of its schedule.
 fn plan_of_parts(alloc: Global, draft: Draft, parts: Parts) -> Result<(Plan, Zone), OutOfMemory>
     requires found { AreFoundIn draft.tasks parts.graph parts.rest.found }
     requires limits { parts.limits ≡ limits_in draft }
@@ -179,7 +181,8 @@ fn plan_of_parts(alloc: Global, draft: Draft, parts: Parts) -> Result<(Plan, Zon
     Ok((plan, rest.zone))
 }
 
-/// What a draft is found to have, by its bytes for the zone `file`.
+/// What the check finds of a draft, or of its faults the one of the least number. `zone_file` has the bytes for the
+/// zone `file`.
 fn check_draft(alloc: Global, draft: &Draft, zone_file: Option<&[u8]>) -> Result<Parts, CheckFault>
     ensures found { IfOk result (λ parts. AreFoundIn draft.now.tasks parts.graph parts.rest.found) }
     ensures limits { IfOk result (λ parts. parts.limits ≡ limits_in draft.now) }
@@ -200,8 +203,8 @@ fn check_draft(alloc: Global, draft: &Draft, zone_file: Option<&[u8]>) -> Result
     looks.check_all(alloc)
 }
 
-/// The plan of a draft and the zone of its schedule, or of its faults the one of the least number; of the tasks that have it
-/// the first in the file is named. The bytes of a zone file are looked at only where the zone is `file`.
+/// The plan of a draft and the zone of its schedule, or of its faults the one of the least number; of the tasks that
+/// have it the first in the file is named. The bytes of a zone file are looked at only where the zone is `file`.
 pub fn check(
     alloc: Global,
     draft: Draft,

@@ -17,7 +17,8 @@ use bf_rule::Rule;
 use bf_value::OutOfMemory;
 use std::alloc::Global;
 
-/// The number of the task over whose items a task is expanded, if it is; nothing where that isn't upstream.
+/// The number of the task over whose items a task is expanded, `Some(None)` where it isn't expanded; `None` where
+/// that task isn't one of its upstreams, whose numbers are `upstreams`.
 fn source_of(task: &TaskDraft, upstreams: &[u32]) -> Option<Option<u32>>
     requires { length upstreams.now ≡ length task.now.upstreams }
     ensures { (ids : List (List ℕ)) → upstreams.now ≡ map (number_or_0 ids) task.now.upstreams
@@ -30,7 +31,8 @@ fn source_of(task: &TaskDraft, upstreams: &[u32]) -> Option<Option<u32>>
     Some(Some(upstreams[place]))
 }
 
-/// The place of the first task that is expanded, and may be decided before its upstreams are settled.
+/// The index of the first expanded task that its rule may decide before its upstreams settle; None where there is
+/// none. `rules` has the rule of each task.
 fn first_expanded_early(tasks: &[TaskDraft], rules: &[Rule]) -> Option<usize>
     ensures { result ≡ position (λ both. is_some both.0.expand
         && not (is_waiting both.1)) (zip tasks.now rules.now) }
@@ -39,7 +41,7 @@ fn first_expanded_early(tasks: &[TaskDraft], rules: &[Rule]) -> Option<usize>
         && !rule.waits_until_settled())
 }
 
-/// The place of the first branch that is expanded.
+/// The index of the first branch that is expanded; None where there is none.
 fn first_expanded_branch(tasks: &[TaskDraft]) -> Option<usize>
     ensures { result ≡ position expands_branch tasks.now }
 {
@@ -47,7 +49,8 @@ fn first_expanded_branch(tasks: &[TaskDraft]) -> Option<usize>
 }
 
 impl DraftUnderCheck<'_> {
-    /// The source of each task, or nothing where that isn't upstream.
+    /// The source of each task, `Some(None)` for one that isn't expanded; `None` for one that is expanded over a task
+    /// not directly upstream of it.
     fn sources_of_each(
         &self,
         alloc: Global,
@@ -64,7 +67,8 @@ impl DraftUnderCheck<'_> {
         Ok(found)
     }
 
-    /// The look 15: the source of each task.
+    /// The source of each task, None for one that isn't expanded; refused where one is expanded over what isn't a
+    /// direct upstream (15).
     fn check_sources(&self, alloc: Global, graph: &Graph) -> Result<Vec<Option<u32>>, CheckFault>
         requires graph { graph.now ≡ shape_in self.now.draft.now.tasks }
         requires below { HasNoneBelow self.now.draft.now 15 }
@@ -80,7 +84,7 @@ impl DraftUnderCheck<'_> {
         self.unwrap_or_refuse(alloc, TaskFault::ExpandSource, found)
     }
 
-    /// The look 16 at rules that don't wait.
+    /// Refuses a task that is expanded under a rule which may decide it before its upstreams are settled (16).
     fn refuse_early_expansions(&self, alloc: Global, rules: &[Rule]) -> Result<(), CheckFault>
         requires rules { rules.now ≡ map rule_of self.now.draft.now.tasks }
         requires below { HasNoneBelow self.now.draft.now 16 }
@@ -94,7 +98,7 @@ impl DraftUnderCheck<'_> {
         self.refuse_at(alloc, TaskFault::ExpandRule, early)
     }
 
-    /// The look 17 at branches.
+    /// Refuses a task that is a branch and expanded (17).
     fn refuse_expanded_branches(&self, alloc: Global) -> Result<(), CheckFault>
         requires below { HasNoneBelow self.now.draft.now 17 }
         requires scheduled { IsScheduled self.now.draft.now
@@ -107,7 +111,8 @@ impl DraftUnderCheck<'_> {
         self.refuse_at(alloc, TaskFault::BranchMisuse, branch)
     }
 
-    /// The looks 15 to 17: the source of each task.
+    /// The source of each task, None for one that isn't expanded; refused for a source (15), a rule (16) or a branch
+    /// (17) that no expansion may have.
     pub(crate) fn check_expansions(
         &self,
         alloc: Global,

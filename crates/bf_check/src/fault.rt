@@ -1,6 +1,6 @@
 //! Why a draft is refused.
 ghost use Rattle.std.specs.Prelude.{◌≡◌};
-ghost use Rattle.bf_check.specs.Refusals.{refusal_number_of, check_number};
+ghost use Rattle.bf_check.specs.Refusals.{refusal_number_of, check_refusal_number_of};
 
 use bf_value::{OutOfMemory, Sequence, Text};
 use std::error::Error;
@@ -27,7 +27,7 @@ pub enum TaskFault {
 }
 
 impl TaskFault {
-    /// The number of the refusal.
+    /// The number of the refusal (docs/FORMATS.md), from 6 to 17.
     pub fn refusal_number(self) -> u32
         ensures { result ≡ refusal_number_of self }
     {
@@ -84,9 +84,9 @@ pub enum CheckFault {
 }
 
 impl CheckFault {
-    /// The number of the refusal, which want of memory doesn't have.
+    /// The number of the refusal (docs/FORMATS.md), 6 to 17; None for want of memory.
     pub fn refusal_number(&self) -> Option<u32>
-        ensures { result ≡ check_number self.now }
+        ensures { result ≡ check_refusal_number_of self.now }
     {
         match self {
             CheckFault::Task(fault, _) => Some(fault.refusal_number()),

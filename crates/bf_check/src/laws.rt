@@ -5,7 +5,7 @@ ghost use Rattle.bf_check.specs.Refusals.{IsAccepted, IsFaultOf};
 ghost use Rattle.bf_check.specs.declared.fault.CheckFault.{CheckFault};
 ghost use Rattle.bf_check.specs.declared.fault.CheckFault.TheVariants.{OutOfMemory};
 
-/// A draft has one answer, want of memory aside: one fault is told, and none where it is accepted.
+/// A law: a draft has one answer, want of memory aside. One fault is told, and none where it is accepted.
 pub fn answer_is_unique()
     ensures fault { (draft : Draft) (file : Option (List ℕ)) (x y : CheckFault)
         → IsFaultOf draft file x → IsFaultOf draft file y → x ≢ OutOfMemory → y ≢ OutOfMemory → x

@@ -1,4 +1,4 @@
-//! Looking through a draft for faults: of all tasks that have one the first in the file is named.
+//! Checking a draft for faults: of all tasks that have one the first in the file is named.
 ghost use Rattle.std.specs.Prelude.{◌≡◌, ◌<◌, suc, is_none, map, option_map, position, None, Some, IfOk, IfErr, OnOk};
 ghost use Rattle.bf_check.specs.Checking.{ids_of};
 ghost use Rattle.bf_check.specs.inner.Looks.{IsPlaceOfFirst};
@@ -11,7 +11,7 @@ use bf_read::Draft;
 use bf_value::OutOfMemory;
 use std::alloc::Global;
 
-/// A draft that is looked through for faults, with the ids of its tasks and the bytes for the zone `file`.
+/// A draft that is checked for faults, with the ids of its tasks and the bytes for the zone `file`.
 #[derive(Clone, Copy)]
 pub(crate) struct DraftUnderCheck<'a> {
     pub(crate) ids: &'a Ids,
@@ -20,13 +20,14 @@ pub(crate) struct DraftUnderCheck<'a> {
     ghost of_draft: { ids.now ≡ ids_of draft.now.tasks },
 }
 
+/// The index of the first `None`; None where all are found.
 fn first_missing<T>(found: &[Option<T>]) -> Option<usize>
     ensures { result ≡ position is_none found.now }
 {
     found.iter().position(|one| one.is_none())
 }
 
-/// All that was found, where nothing is missing.
+/// What was found of each task, where nothing is missing.
 fn unwrap_all<T: Drop>(alloc: Global, found: Vec<Option<T>>) -> Result<Vec<T>, OutOfMemory>
     requires { position is_none found.items ≡ None }
     ensures { IfOk result (λ all. map Some all.items ≡ found.items) }
@@ -35,7 +36,8 @@ fn unwrap_all<T: Drop>(alloc: Global, found: Vec<Option<T>>) -> Result<Vec<T>, O
 }
 
 impl DraftUnderCheck<'_> {
-    /// Refuses a draft of which some task has this fault: the first of them stands at this place.
+    /// Refuses the draft for this fault of the task at the index `place`, the first that has it; does nothing for
+    /// None.
     pub(crate) fn refuse_at(
         &self,
         alloc: Global,
@@ -60,7 +62,7 @@ impl DraftUnderCheck<'_> {
         }
     }
 
-    /// What was found of each task. A task of which nothing was found has this fault.
+    /// What was found of each task; where one has None, refuses the draft for this fault of the first such task.
     pub(crate) fn unwrap_or_refuse<T: Drop>(
         &self,
         alloc: Global,

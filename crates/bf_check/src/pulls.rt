@@ -26,13 +26,14 @@ pub(crate) struct Pulls {
     pub(crate) numbers: Sequence<u32>,
 }
 
+/// True only where each of `pulls` is one of `tasks`.
 fn are_among(tasks: &[u32], pulls: &[u32]) -> bool
     ensures { IsTrue result → (u : ℕ) → Contains pulls.now u → Contains tasks.now u }
 {
     pulls.iter().all(|pull| tasks.contains(pull))
 }
 
-/// Whether each of these is settled when a task is decided, by the edges along which upstreams are.
+/// Whether each of `pulls` reaches `task` by the edges `settling`, and so is settled when `task` is decided.
 fn are_settled(
     alloc: Global,
     settling: &[Vec<u32>],
@@ -60,7 +61,7 @@ fn are_settled(
     Ok(true)
 }
 
-/// The upstreams of a task where they are settled when it is decided, and else none.
+/// The upstreams of a task that are settled when it is decided: all where its rule waits for that, else none.
 fn settling_upstreams(alloc: Global, rule: Rule, upstreams: &[u32]) -> Result<Vec<u32>, OutOfMemory>
     ensures { IfOk result (λ v. v.items ≡ if is_waiting rule then upstreams.now else []) }
 {
@@ -72,7 +73,7 @@ fn settling_upstreams(alloc: Global, rule: Rule, upstreams: &[u32]) -> Result<Ve
 }
 
 impl DraftUnderCheck<'_> {
-    /// The edges along which upstreams are settled when a task is decided.
+    /// For each task the upstreams that are settled when it is decided: all where its rule waits for that, else none.
     fn settling_edges(
         &self,
         alloc: Global,
@@ -90,7 +91,8 @@ impl DraftUnderCheck<'_> {
         Ok(edges)
     }
 
-    /// What a task pulls from, or nothing where it may not pull from one of these.
+    /// The ids and numbers of the tasks that the task `t` pulls from; None where one is no task, or needn't be
+    /// settled by the edges `settling` when `t` is decided.
     fn pulls_of_task(
         &self,
         alloc: Global,
@@ -116,7 +118,8 @@ impl DraftUnderCheck<'_> {
         }))
     }
 
-    /// What each task pulls from, or nothing where it may not pull from one.
+    /// The ids and numbers of the tasks that each task pulls from; None for a task that pulls from one that is no
+    /// task, or needn't be settled by the edges `settling` when it is decided.
     fn pulls_of_each(
         &self,
         alloc: Global,
@@ -137,7 +140,7 @@ impl DraftUnderCheck<'_> {
         Ok(found)
     }
 
-    /// The look 14: what each task pulls from.
+    /// What each task pulls from; refused where that is no task, or needn't be settled when the task is decided (14).
     pub(crate) fn check_pulls(
         &self,
         alloc: Global,

@@ -11,6 +11,7 @@ use bf_zone::{Zone, ZoneFault};
 use std::alloc::Global;
 
 impl DraftUnderCheck<'_> {
+    /// The schedule of the draft's text; refused where the text is none (11).
     fn read_schedule(&self, alloc: Global) -> Result<CronSpec, CheckFault>
         requires { HasNoneBelow self.now.draft.now 11 }
         ensures ok { IfOk result (IsScheduleOf self.now.draft.now.schedule) }
@@ -24,7 +25,7 @@ impl DraftUnderCheck<'_> {
         }
     }
 
-    /// The looks 11 and 12: the schedule, which some civil minute matches.
+    /// The schedule of a draft; refused where its text is none (11), or no civil minute matches it (12).
     fn check_schedule(&self, alloc: Global) -> Result<CronSpec, CheckFault>
         requires { HasNoneBelow self.now.draft.now 11 }
         ensures ok { IfOk result (Fires self.now.draft.now.schedule) }
@@ -39,7 +40,7 @@ impl DraftUnderCheck<'_> {
         Ok(schedule)
     }
 
-    /// The look 13: the zone of a schedule that is right.
+    /// The zone of a draft whose schedule is right; refused where its text means no zone (13).
     fn check_zone(&self, alloc: Global) -> Result<Zone, CheckFault>
         requires below { HasNoneBelow self.now.draft.now 13 }
         requires fires { (spec : CronSpec) × Fires self.now.draft.now.schedule spec }
@@ -58,7 +59,8 @@ impl DraftUnderCheck<'_> {
         }
     }
 
-    /// The looks 11 to 13: the schedule, and its zone.
+    /// The schedule and its zone; refused for a text that is no schedule (11), one that never fires (12) or no zone
+    /// (13).
     pub(crate) fn check_schedule_and_zone(
         &self,
         alloc: Global,

@@ -17,6 +17,7 @@ use bf_xcom::RunState;
 use std::alloc::Global;
 use std::mem;
 
+/// The index of a task's id among `ids`; None where it is none of them.
 fn place_of(ids: &[Text], task: &Task) -> Option<usize>
     ensures { result ≡ position (bytes_eq task.now.id) ids.now }
 {
@@ -24,7 +25,7 @@ fn place_of(ids: &[Text], task: &Task) -> Option<usize>
     ids.iter().position(|known| id == known.as_str())
 }
 
-/// Where each task's id stands among these.
+/// For each task the index of its id among `ids`; None where it is none of them.
 fn places_of(alloc: Global, ids: &[Text], tasks: &[Task]) -> Result<Vec<Option<usize>>, OutOfMemory>
     ensures { IfOk result (λ places. places.items
         ≡ map (λ task. position (bytes_eq task.id) ids.now) tasks.now) }
@@ -36,6 +37,7 @@ fn places_of(alloc: Global, ids: &[Text], tasks: &[Task]) -> Result<Vec<Option<u
     Ok(places)
 }
 
+/// The ids of these tasks, in order.
 fn ids_of(alloc: Global, tasks: &[Task]) -> Result<Sequence<Text>, OutOfMemory>
     ensures { IfOk result (λ ids. ids ≡ map (λ task. task.id) tasks.now) }
 {
@@ -46,7 +48,7 @@ fn ids_of(alloc: Global, tasks: &[Task]) -> Result<Sequence<Text>, OutOfMemory>
     Ok(Sequence::from_vec(ids))
 }
 
-/// Takes what is told at a place.
+/// What is told of the task at the index `place`, which is left as no_status; no_status for None, or past the end.
 fn take_task_at(tasks: &mut Sequence<TaskReport>, place: Option<usize>) -> TaskReport
     ensures told { result ≡ told_at tasks.old place }
     ensures others { (other : Option ℕ) → (place ≡ other → place ≡ None)
@@ -58,7 +60,8 @@ fn take_task_at(tasks: &mut Sequence<TaskReport>, place: Option<usize>) -> TaskR
     }
 }
 
-/// What is told of each task, by the places of all.
+/// What is told of each task of a plan, no_status where nothing is; `places` has the index of each among `told`, the
+/// tasks of a report's run.
 fn tasks_at_places(
     alloc: Global,
     places: &[Option<usize>],
@@ -74,6 +77,7 @@ fn tasks_at_places(
     Ok(Sequence::from_vec(tasks))
 }
 
+/// The index of the run over a data interval; None where no run is over it.
 fn place_over(runs: &[RunReport], interval: &Interval) -> Option<usize>
     ensures { result ≡ position (is_over interval.now) runs.now }
 {
@@ -81,7 +85,7 @@ fn place_over(runs: &[RunReport], interval: &Interval) -> Option<usize>
         .position(|run| is_same_interval(&run.interval, interval))
 }
 
-/// Takes what is told of the run over a data interval.
+/// Takes the tasks out of the run over a data interval, which is left without; none where there is no such run.
 fn take_tasks(alloc: Global, runs: &mut Vec<RunReport>, interval: &Interval) -> Sequence<TaskReport>
     ensures told { result ≡ tasks_at runs.old.items interval.now }
     ensures others { (other : Interval) → other.start.nanosecond ≢ interval.now.start.nanosecond
@@ -93,7 +97,8 @@ fn take_tasks(alloc: Global, runs: &mut Vec<RunReport>, interval: &Interval) -> 
     }
 }
 
-/// What is told of each run.
+/// A run over each of these data intervals, in order, with what `told` has of its tasks; `places` has the index of
+/// each task among those of `told`.
 fn runs_over(
     alloc: Global,
     places: &[Option<usize>],
@@ -118,8 +123,9 @@ fn runs_over(
     Ok(Sequence::from_vec(runs))
 }
 
-/// What a report tells of the tasks of a plan, by their ids, and of these runs, by their data intervals: a report of what is there now,
-/// whatever shape the backfill had that it is of. The states of runs aren't told. No value is copied.
+/// What a report tells of the tasks of a plan, by their ids, and of these runs, by their data intervals, whatever
+/// tasks and runs the report has besides; no_status where it tells nothing. The states of runs aren't told: each is
+/// failed. No value is copied.
 pub(crate) fn align(
     alloc: Global,
     plan: &Plan,

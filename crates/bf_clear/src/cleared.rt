@@ -41,7 +41,7 @@ impl<'a> Model for Cleared<'a> {
 }
 
 impl<'a> Cleared<'a> {
-    /// What is kept of a report, by what is cleared.
+    /// What is kept of a report: all but what `cleared` has.
     pub(crate) fn new(plan: &'a Plan, report: Report, cleared: Followers) -> Cleared<'a>
         ensures { result ≡ record { dag = plan.entry.now.dag; cleared = cleared; report = report } }
     {
@@ -65,6 +65,8 @@ impl KeptTries for Cleared<'_> {
 
     ghost kept = { λ s. kept_in s };
 
+    /// The answer by which a try ends as the report tells; None where it is cleared, not told, or was given something
+    /// else, or its outcome doesn't fit the plan.
     fn answer(
         &self,
         alloc: Global,

@@ -9,7 +9,7 @@ ghost use Rattle.bf_clear.specs.Matching.{clear_fault, refusal};
 
 use crate::aligning::align;
 use crate::cleared::Cleared;
-use crate::matching::{has_dag_id, is_report_of};
+use crate::matching::{is_of_dag, is_report_of};
 use bf_dependents::{ClearFault, Place, dependents};
 use bf_interval::Runs;
 use bf_plan::Plan;
@@ -17,7 +17,8 @@ use bf_report::Report;
 use bf_value::OutOfMemory;
 use std::alloc::Global;
 
-/// What is kept of a report of tasks and runs that are there, where these places are cleared.
+/// What is kept of a report, whose tasks and runs are those of the plan, where these places are cleared with all that
+/// follows from them.
 fn clear_places_within<'a>(
     alloc: Global,
     plan: &'a Plan,
@@ -37,11 +38,10 @@ fn clear_places_within<'a>(
     Ok(Cleared::new(plan, report, cleared))
 }
 
-/// What is kept of the report of a backfill of the graph, whatever shape that had and whatever runs there were, where these tasks in runs,
-/// or single instances of them, are cleared with all that follows from them: every other try that the report tells of, by the data
-/// interval of its run, the id of its task, its map index and its number, but for outcomes that the plan doesn't allow.
-///
-/// Refused is a report of another graph.
+/// What is kept of the report of a backfill of the graph, whatever tasks and runs that had, where these places are
+/// cleared with all that follows from them: every other try that the report tells of, by the data interval of its
+/// run, the id of its task, its map index and its number, but for outcomes that the plan doesn't allow.
+/// `ReportMismatch` for a report of another graph.
 pub fn clear_places_by_ids<'a>(
     alloc: Global,
     plan: &'a Plan,
@@ -57,7 +57,7 @@ pub fn clear_places_by_ids<'a>(
     ensures fit { IfOk result (λ kept. AreFit plan.entry.now.dag (kept_in kept)) }
     ensures err { IfErr result (λ fault. keep_fault plan.entry.now.dag report ≡ refusal fault) }
 {
-    if !has_dag_id(plan.dag(), &report) {
+    if !is_of_dag(plan.dag(), &report) {
         return Err(ClearFault::ReportMismatch);
     }
     let told = align(alloc, plan, runs, report)?;
@@ -65,11 +65,10 @@ pub fn clear_places_by_ids<'a>(
     Ok(kept)
 }
 
-/// What is kept of the report of a backfill where these tasks in runs, or single instances of them, are cleared, with their
-/// downstreams, and where a cleared task depends on its past, with the next run's: all that the report tells of and that isn't
-/// cleared, but for outcomes that the plan doesn't allow. Without places nothing is cleared.
-///
-/// Refused is a report that isn't one of the plan over these runs.
+/// What is kept of a report where these places are cleared with all that follows from them: their downstreams and,
+/// where a cleared task depends on its past, that task in the next run. The rest is kept, but for outcomes that the
+/// plan doesn't allow; without places nothing is cleared. `ReportMismatch` for a report that isn't one of the plan
+/// over these runs.
 pub fn clear_places<'a>(
     alloc: Global,
     plan: &'a Plan,

@@ -17,6 +17,7 @@ use std::alloc::Global;
 /// How many instances of a task a map index can name.
 const MOST_INSTANCES: usize = 2_147_483_648;
 
+/// Whether the last try of an instance failed.
 fn has_failed(alloc: Global, instance: &InstanceReport) -> Result<bool, OutOfMemory>
     ensures { IfOk result (λ failed. failed ≡ is_failed instance.now.result.outcome) }
 {
@@ -24,6 +25,7 @@ fn has_failed(alloc: Global, instance: &InstanceReport) -> Result<bool, OutOfMem
     Ok(matches!(&ended.outcome, Outcome::Failed))
 }
 
+/// The name of the first try of an instance.
 fn first_try(run: u32, task: u32, index: i32) -> JobName
     ensures { result ≡ record { run = run; task = task; index = index; attempt = 1 } }
 {
@@ -35,7 +37,7 @@ fn first_try(run: u32, task: u32, index: i32) -> JobName
     }
 }
 
-/// Adds an instance, where the report tells of it and it failed.
+/// Adds the place of the instance that `name` is a try of, where the report tells that it failed.
 fn add_failed(
     alloc: Global,
     report: &Report,
@@ -59,6 +61,7 @@ fn add_failed(
     Ok(())
 }
 
+/// How many instances an expanded task has in a run of a report, at most 2^31; 0 for any other task, or none.
 fn instance_count_at(report: &Report, run: u32, task: u32) -> usize
     ensures count { result ≡ count_at report.now run task }
     ensures few { result ≤ 2_147_483_648 }
@@ -69,6 +72,7 @@ fn instance_count_at(report: &Report, run: u32, task: u32) -> usize
     }
 }
 
+/// Adds the places of the failed instances of a task in a run, by map index.
 fn add_failed_of_task(
     alloc: Global,
     report: &Report,
@@ -86,6 +90,7 @@ fn add_failed_of_task(
     Ok(())
 }
 
+/// Adds the places of the failed instances of the first `tasks` tasks in a run, in file order.
 fn add_failed_of_run(
     alloc: Global,
     report: &Report,
@@ -102,6 +107,7 @@ fn add_failed_of_run(
     Ok(())
 }
 
+/// The places of the failed instances of the first `tasks` tasks in the first `runs` runs, by run and task.
 fn failed_in(
     alloc: Global,
     report: &Report,
@@ -117,7 +123,8 @@ fn failed_in(
     Ok(found)
 }
 
-/// The instances that failed, of the tasks of a plan in these runs, in order. Takes time over the report.
+/// The instances whose last try failed, of the tasks of a plan in these runs, by run, task and map index. Takes time
+/// over the report.
 pub fn failed_places(
     alloc: Global,
     plan: &Plan,

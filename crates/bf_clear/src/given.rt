@@ -9,6 +9,7 @@ use bf_value::{JobName, OutOfMemory, Sequence, Xval, copy_option};
 use bf_xcom::{Given, Pulled, TaskResult, TaskValue, pull};
 use std::alloc::Global;
 
+/// The results of these instances, by map index.
 fn results_of(
     alloc: Global,
     instances: &[InstanceReport],
@@ -22,7 +23,7 @@ fn results_of(
     Ok(Sequence::from_vec(results))
 }
 
-/// The value that a task had in a run, by what a report has of it.
+/// The value that a task had in a run, by what a report has of it: blocked for no_status.
 pub fn value_of(alloc: Global, task: &TaskReport) -> Result<TaskValue, OutOfMemory>
     ensures { IfOk result (λ value. value ≡ value_in task.now) }
 {
@@ -41,6 +42,7 @@ pub fn value_of(alloc: Global, task: &TaskReport) -> Result<TaskValue, OutOfMemo
     }
 }
 
+/// The value of a task in a run of a report; blocked where the report has no such run or task.
 fn value_at(alloc: Global, report: &Report, run: u32, task: u32) -> Result<TaskValue, OutOfMemory>
     ensures { IfOk result (λ value. value ≡ value_reported_at report.now run task) }
 {
@@ -50,7 +52,7 @@ fn value_at(alloc: Global, report: &Report, run: u32, task: u32) -> Result<TaskV
     }
 }
 
-/// What a pull from a task gave.
+/// What a pull from the task `source` gave in a run, by the values of a report; None where that pushed nothing.
 fn pulled_from(
     alloc: Global,
     dag: &Dag,
@@ -69,6 +71,7 @@ fn pulled_from(
     }
 }
 
+/// What the pulls from the tasks `sources` gave in a run, in order, by the values of a report.
 fn all_pulled(
     alloc: Global,
     dag: &Dag,
@@ -86,7 +89,7 @@ fn all_pulled(
     Ok(Sequence::from_vec(values))
 }
 
-/// The item of a map index.
+/// The item of a map index in the list `items`; None where that is no list, or has no such item.
 fn item_of(alloc: Global, items: &Option<Xval>, index: i32) -> Result<Option<Xval>, OutOfMemory>
     ensures { IfOk result (λ item. item ≡ item_in items.now index) }
 {
@@ -98,8 +101,9 @@ fn item_of(alloc: Global, items: &Option<Xval>, index: i32) -> Result<Option<Xva
     }
 }
 
-/// What the values of a report give an instance; none where its source gives no such item.
-#[tactic(auto, unfolding(crate::specs::Entries::worked_out))]
+/// What the values of a report give the instance that `name` is a try of: its item and its pulled values. None where
+/// its source gives no such item, or a task that isn't expanded has no such index.
+#[tactic(auto, unfolding(crate::specs::Entries::given_by_values_in))]
 fn given_by_values(
     alloc: Global,
     dag: &Dag,
@@ -129,7 +133,7 @@ fn given_by_values(
     }
 }
 
-/// Whether the values of a report give an instance this.
+/// Whether `given` is just what the values of a report give the instance that `name` is a try of.
 pub(crate) fn is_given_by_values(
     alloc: Global,
     dag: &Dag,

@@ -18,7 +18,7 @@ ghost use Rattle.bf_clear.specs.Entries.{told};
 ghost use Rattle.bf_clear.specs.Keeping.{AreKept};
 ghost use Rattle.bf_clear.specs.Matching.{is_report_in};
 
-/// The report of a backfill that has ended tells of the entries of its ledger, and of no other.
+/// A law: the report of a backfill that has ended tells of the entries of its ledger, and of no other.
 pub fn reports_tell_ledgers()
     ensures { (dag : Dag) (intervals : List Interval) (ledger : Ledger)
         → HoldsItsTries dag (length intervals) ledger →
@@ -26,7 +26,8 @@ pub fn reports_tell_ledgers()
         → told dag report n ≡ ledger n }
 {}
 
-/// A backfill that goes on from what is kept of the report of another has the entries of that one, but for what is cleared.
+/// A law: a backfill that goes on from what is kept of the report of another has the entries of that one, but for
+/// what is cleared with the seeds.
 pub fn resumed_backfills_keep_the_rest()
     ensures { (dag : Dag) → IsSound dag
         → (intervals : List Interval) (seeds : List Place) (was kept resumed : Ledger)
@@ -37,15 +38,15 @@ pub fn resumed_backfills_keep_the_rest()
         (n : JobName) → IsBeside dag seeds n → resumed n ≡ was n }
 {}
 
-/// The report of a backfill of a plan over data intervals is never refused there as another's.
+/// A law: the report of a backfill of a plan over data intervals is one of that plan over them (`is_report_of`).
 pub fn own_reports_match()
     ensures { (dag : Dag) → IsSound dag
         → (intervals : List Interval) (ledger : Ledger) (report : Report) →
         IsDated dag intervals ledger report → is_report_in dag intervals report ≡ true }
 {}
 
-/// What a report of a backfill of the plan tells by ids and data intervals are the entries of its ledger, in each run over a data interval that was one
-/// of its own.
+/// A law: a report that was aligned with other data intervals (`align`) tells, in each run over a data interval of
+/// its own backfill, just the entries of that backfill's ledger.
 pub fn kept_reports_tell_ledgers()
     ensures { (dag : Dag) → IsNamed dag → (before intervals : List Interval)
         → AreOfRuns before → (ledger : Ledger) → HoldsItsTries dag (length before) ledger →

@@ -11,6 +11,7 @@ use bf_value::{JobName, OutOfMemory, is_same_option};
 use bf_xcom::{Given, Pulled, TaskResult};
 use std::alloc::Global;
 
+/// Whether these pulls gave just these values, as many and in order.
 fn are_pulled(pulls: &[Pull], values: &[Pulled]) -> bool
     ensures { IsTrue result ↔ (map (λ p. p.value) pulls.now ≡ values.now) }
 {
@@ -25,7 +26,7 @@ fn are_pulled(pulls: &[Pull], values: &[Pulled]) -> bool
     true
 }
 
-/// Whether a report of version 2 tells that an instance was given this.
+/// Whether an instance of a report of version 2 has just this item and these pulled values.
 fn tells_given(instance: &InstanceReport, given: &Given) -> bool
     ensures { IsTrue result ↔ (given_in instance.now ≡ given.now) }
 {
@@ -33,7 +34,8 @@ fn tells_given(instance: &InstanceReport, given: &Given) -> bool
         && are_pulled(instance.pulls(), given.pulled.as_slice())
 }
 
-/// Whether an instance was given this, by what the report tells or by what is worked out from it.
+/// Whether the instance that `name` is a try of was given just `given`: as a report of version 2 tells, and in
+/// version 1 as the report's values give it.
 fn was_given(
     alloc: Global,
     plan: &Plan,
@@ -53,8 +55,9 @@ fn was_given(
     }
 }
 
-/// An answer by which a try of an instance ends as it did, where it fits.
-#[tactic(auto, unfolding(bf_try::specs::Grades::fits))]
+/// An answer by which the try numbered `attempt`, from 1, of an instance ends as it did: failed for each but the
+/// last. None where it wasn't made, or its outcome doesn't fit the plan.
+#[tactic(auto, unfolding(bf_try::specs::Grades::fits_in))]
 fn answer_of_try(
     alloc: Global,
     plan: &Plan,
@@ -78,7 +81,8 @@ fn answer_of_try(
     Ok(None)
 }
 
-/// An answer by which a try of an instance ends as it did, where it was given this.
+/// An answer by which the try `name` of an instance ends as it did; None where it was given something else than
+/// `given`, wasn't made, or its outcome doesn't fit the plan.
 pub(crate) fn answer_of_instance(
     alloc: Global,
     plan: &Plan,

@@ -33,20 +33,20 @@ use Rattle.bf_command_fault.specs.declared.fault.CommandFault.TheVariants.{Read,
 use Rattle.bf_command_fault.specs.declared.range.RangeFault.TheVariants.{Unlisted}
 use Rattle.bf_command_fault.specs.declared.stop.StopFault.{StopFault}
 use Rattle.bf_command_fault.specs.declared.status.Status.{Status}
-use Rattle.bf_command_fault.specs.Ranges.{range_number, range_words}
+use Rattle.bf_command_fault.specs.Ranges.{range_refusal_number_of, range_words}
 
 -- ---- numbers and words
 
 -- refusals have numbers, and faults have none
 abbrev pub number_of : CommandFault → Option ℕ
-number_of (Read fault) = graph_file.fault_number fault
-number_of (Check fault) = graph.check_number fault
-number_of (Table fault) = answers.fault_number fault
-number_of (Range fault) = range_number fault
-number_of (Report fault) = reading.fault_number fault
-number_of (Journal fault) = journaling.fault_number fault
-number_of (Clear fault) = clearing.fault_number fault
-number_of (Seeds fault) = seeding.fault_number fault
+number_of (Read fault) = graph_file.refusal_number_of fault
+number_of (Check fault) = graph.check_refusal_number_of fault
+number_of (Table fault) = answers.refusal_number_of fault
+number_of (Range fault) = range_refusal_number_of fault
+number_of (Report fault) = reading.refusal_number_of fault
+number_of (Journal fault) = journaling.refusal_number_of fault
+number_of (Clear fault) = clearing.refusal_number_of fault
+number_of (Seeds fault) = seeding.refusal_number_of fault
 number_of JournalInUse = Some 44
 number_of UnknownIndex = Some 46
 number_of BadMoment = Some 28

@@ -58,7 +58,7 @@ pub enum CommandFault {
 }
 
 impl CommandFault {
-    /// The number of a refusal.
+    /// The number of the refusal (docs/FORMATS.md); None for a fault, which has none, as want of memory.
     pub fn refusal_number(&self) -> Option<u32>
         ensures { result ≡ number_of self.now }
     {
@@ -83,7 +83,8 @@ impl CommandFault {
         }
     }
 
-    /// How the program ends.
+    /// The exit status with which the program ends at this fault: `Refused` for a fault with a refusal number, else
+    /// `Fault`.
     pub fn status(&self) -> Status
         ensures { result ≡ status_of self.now }
     {
@@ -93,7 +94,8 @@ impl CommandFault {
         }
     }
 
-    /// The line for standard error: `refused`, the number and the words, or `fault:` and the words.
+    /// The line for standard error: `refused`, the number and the words, or `fault:` and the words, with its line
+    /// feed.
     pub fn line(&self, alloc: Global) -> Result<String, OutOfMemory>
         ensures { IfOk result (λ line. string_bytes line ≡ line_of self.now) }
     {
@@ -111,6 +113,7 @@ impl fmt::Display for CommandFault {
 
     ghost output = { λ fault. Some (words_of fault) };
 
+    /// Writes the words of the fault, without `refused` or `fault:` and without its number.
     fn fmt<W: fmt::Write>(&self, f: &mut fmt::Formatter<W>) -> fmt::Result {
         match self {
             CommandFault::Read(fault) => write!(f, "{fault}"),
@@ -161,6 +164,7 @@ impl From<ReadFault> for CommandFault {
 
     ghost from_gives = { λ fault e. e ≡ of_read fault };
 
+    /// The fault of a command that can't read a graph file; want of memory stays that.
     fn from(fault: ReadFault) -> CommandFault {
         match fault {
             ReadFault::OutOfMemory => CommandFault::OutOfMemory,
@@ -174,6 +178,7 @@ impl From<CheckFault> for CommandFault {
 
     ghost from_gives = { λ fault e. e ≡ of_check fault };
 
+    /// The fault of a command whose graph fails its check; want of memory stays that.
     fn from(fault: CheckFault) -> CommandFault {
         match fault {
             CheckFault::OutOfMemory => CommandFault::OutOfMemory,
@@ -187,6 +192,7 @@ impl From<TableFault> for CommandFault {
 
     ghost from_gives = { λ fault e. e ≡ of_table fault };
 
+    /// The fault of a command that can't read a table; want of memory stays that.
     fn from(fault: TableFault) -> CommandFault {
         match fault {
             TableFault::OutOfMemory => CommandFault::OutOfMemory,
@@ -200,6 +206,7 @@ impl From<IntervalFault> for CommandFault {
 
     ghost from_gives = { λ fault e. e ≡ of_range fault };
 
+    /// The fault of a command whose range of data intervals can't be listed; want of memory stays that.
     fn from(fault: IntervalFault) -> CommandFault {
         match fault {
             IntervalFault::OutOfMemory => CommandFault::OutOfMemory,
@@ -213,6 +220,7 @@ impl From<ReportFault> for CommandFault {
 
     ghost from_gives = { λ fault e. e ≡ of_report fault };
 
+    /// The fault of a command that can't read a report; want of memory stays that.
     fn from(fault: ReportFault) -> CommandFault {
         match fault {
             ReportFault::OutOfMemory => CommandFault::OutOfMemory,
@@ -226,6 +234,7 @@ impl From<JournalFault> for CommandFault {
 
     ghost from_gives = { λ fault e. e ≡ of_journal fault };
 
+    /// The fault of a command that can't read a journal; want of memory stays that.
     fn from(fault: JournalFault) -> CommandFault {
         match fault {
             JournalFault::OutOfMemory => CommandFault::OutOfMemory,
@@ -239,6 +248,7 @@ impl From<ClearFault> for CommandFault {
 
     ghost from_gives = { λ fault e. e ≡ of_clear fault };
 
+    /// The fault of a command that can't clear what is asked for; want of memory stays that.
     fn from(fault: ClearFault) -> CommandFault {
         match fault {
             ClearFault::OutOfMemory => CommandFault::OutOfMemory,
@@ -252,6 +262,7 @@ impl From<SeedsFault> for CommandFault {
 
     ghost from_gives = { λ fault e. e ≡ of_seeds fault };
 
+    /// The fault of a command that can't read seeds; an unknown task or run is told as where the line names it.
     fn from(fault: SeedsFault) -> CommandFault {
         match fault {
             SeedsFault::OutOfMemory => CommandFault::OutOfMemory,
@@ -266,6 +277,7 @@ impl From<WriteFault> for CommandFault {
 
     ghost from_gives = { λ fault e. e ≡ of_write fault };
 
+    /// The fault of a command that can't write its text, with how many bytes went out; want of memory stays that.
     fn from(fault: WriteFault) -> CommandFault {
         match fault.cause {
             Cause::Io => CommandFault::CannotWrite(fault.sent),

@@ -1,6 +1,6 @@
 //! Why there are no runs.
 ghost use Rattle.std.specs.Prelude.{◌≡◌};
-ghost use Rattle.bf_command_fault.specs.Ranges.{range_number};
+ghost use Rattle.bf_command_fault.specs.Ranges.{range_refusal_number_of};
 
 use bf_interval::IntervalFault;
 use std::error::Error;
@@ -16,9 +16,9 @@ pub enum RangeFault {
 }
 
 impl RangeFault {
-    /// The number of the refusal.
+    /// The number of the refusal (docs/FORMATS.md), 25 to 27 or 29; None for want of memory.
     pub fn refusal_number(self) -> Option<u32>
-        ensures { result ≡ range_number self }
+        ensures { result ≡ range_refusal_number_of self }
     {
         match self {
             RangeFault::Unlisted(fault) => fault.refusal_number(),
@@ -33,6 +33,7 @@ impl fmt::Display for RangeFault {
 
     ghost output = { λ fault. Some (range_words fault) };
 
+    /// Writes the words of the fault.
     fn fmt<W: fmt::Write>(&self, f: &mut fmt::Formatter<W>) -> fmt::Result {
         match self {
             RangeFault::Unlisted(fault) => write!(f, "{fault}"),

@@ -15,7 +15,7 @@ pub enum Status {
 }
 
 impl Status {
-    /// How it ends where it is known whether every run is a success.
+    /// The exit status of a backfill: success where `succeeded`, that every run is one, and else failure.
     pub fn of_runs(succeeded: bool) -> Status
         ensures { result ≡ of_runs succeeded }
     {
@@ -26,7 +26,7 @@ impl Status {
         }
     }
 
-    /// The exit status as the system has it.
+    /// The exit status as a number: 0 to 3, in the order of the variants.
     pub fn code(self) -> u8
         ensures { result ≡ code_of self }
     {

@@ -30,6 +30,7 @@ impl fmt::Display for StopFault {
 
     ghost output = { λ fault. Some (stop_words fault) };
 
+    /// Writes the words of the fault.
     fn fmt<W: fmt::Write>(&self, f: &mut fmt::Formatter<W>) -> fmt::Result {
         match self {
             StopFault::CannotStart => write!(f, "cannot start workers"),

@@ -10,6 +10,7 @@ use clap::{ArgMatches, Error};
 use std::alloc::{AllocError, Global};
 
 // `clap` is handed no list of possible values: a clause can't tell where such a list lies, and so not which line has it.
+/// The format that `schema` asks for, by what `clap` found. Refuses any other word than `graph` and `table`.
 #[tactic(auto, using(crate::proofs::Rows::first_rows))]
 pub(crate) fn format_asked(alloc: Global, matches: &ArgMatches<'_>) -> Result<Format, Error>
     ensures ok { IfOk result (IsFormatBy (rows_of (found_of matches.now))) }
@@ -24,6 +25,8 @@ pub(crate) fn format_asked(alloc: Global, matches: &ArgMatches<'_>) -> Result<Fo
     }
 }
 
+/// The shell whose completions are asked for, by what `clap` found. Refuses any other word than `bash`, `zsh` and
+/// `fish`.
 #[tactic(auto, using(crate::proofs::Rows::first_rows))]
 pub(crate) fn shell_asked(alloc: Global, matches: &ArgMatches<'_>) -> Result<Shell, Error>
     ensures ok { IfOk result (IsShellBy (rows_of (found_of matches.now))) }
@@ -39,6 +42,8 @@ pub(crate) fn shell_asked(alloc: Global, matches: &ArgMatches<'_>) -> Result<She
     }
 }
 
+/// When to colour, by what `clap` found for `--color`; auto where it isn't given. Refuses any other word than `auto`,
+/// `always` and `never`.
 #[tactic(auto, using(crate::proofs::Rows::first_rows))]
 pub(crate) fn color_asked(alloc: Global, matches: &ArgMatches<'_>) -> Result<Color, Error>
     ensures ok { IfOk result (IsColorBy

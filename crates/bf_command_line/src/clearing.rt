@@ -15,6 +15,8 @@ use crate::value::{
 use clap::{ArgMatches, Error};
 use std::alloc::{AllocError, Global};
 
+/// The value of `--index` at `place`, from 0; None where there are fewer. AllocError where it is no number, which
+/// `clap` has ruled out.
 fn index_at(matches: &ArgMatches<'_>, place: usize) -> Result<Option<i32>, AllocError>
     ensures { IfOk result (IsIntegerIfGiven
         (slice_get (texts_in (codes "index") (rows_of (found_of matches.now))) place)) }
@@ -28,6 +30,8 @@ fn index_at(matches: &ArgMatches<'_>, place: usize) -> Result<Option<i32>, Alloc
     }
 }
 
+/// The seed of the values of `--task`, `--run` and `--index` at `place`, from 0. AllocError where memory is wanting,
+/// or there is no such `--task` or `--run`.
 fn seed_at(alloc: Global, matches: &ArgMatches<'_>, place: usize) -> Result<SeedAsked, AllocError>
     ensures { IfOk result (IsSeedAt (rows_of (found_of matches.now)) place) }
 {
@@ -38,6 +42,8 @@ fn seed_at(alloc: Global, matches: &ArgMatches<'_>, place: usize) -> Result<Seed
     })
 }
 
+/// The seeds that `--task`, `--run` and `--index` name, one for each value of `--task`, in order. AllocError where
+/// memory is wanting, or a `--run` is, which `refuse_unpaired` has ruled out.
 fn seeds_asked(alloc: Global, matches: &ArgMatches<'_>) -> Result<Vec<SeedAsked>, AllocError>
     ensures { IfOk result (λ seeds. AreSeedsBy (rows_of (found_of matches.now)) seeds.items) }
 {
@@ -49,6 +55,7 @@ fn seeds_asked(alloc: Global, matches: &ArgMatches<'_>) -> Result<Vec<SeedAsked>
     Ok(seeds)
 }
 
+/// Whether `--task`, `--run` or `--index` has a value.
 fn has_seeds(matches: &ArgMatches<'_>) -> bool
     ensures { result ≡ has_seeds_in (rows_of (found_of matches.now)) }
 {
@@ -57,6 +64,7 @@ fn has_seeds(matches: &ArgMatches<'_>) -> bool
         || value_count_of(matches, "index") != 0
 }
 
+/// Refuses more or fewer values of `--task` than of `--run`, and of `--index` than of `--task` where it has some.
 fn refuse_unpaired(alloc: Global, matches: &ArgMatches<'_>) -> Result<(), Error>
     ensures { FailsBy (seeds_wrongs (rows_of (found_of matches.now))) result }
 {
@@ -72,7 +80,8 @@ fn refuse_unpaired(alloc: Global, matches: &ArgMatches<'_>) -> Result<(), Error>
     Ok(())
 }
 
-/// What is cleared.
+/// What is to be cleared, by what `clap` found for `clear`. Refuses a line that doesn't say it, says it in two ways,
+/// or has unpaired options.
 fn cleared_asked(alloc: Global, matches: &ArgMatches<'_>) -> Result<ClearedAsked, Error>
     ensures ok { IfOk result (IsClearedBy (rows_of (found_of matches.now))) }
     ensures err { FailsBy (cleared_wrongs (rows_of (found_of matches.now))) result }
@@ -94,6 +103,8 @@ fn cleared_asked(alloc: Global, matches: &ArgMatches<'_>) -> Result<ClearedAsked
     }
 }
 
+/// What `clear`, which is `name`, asks for, by what `clap` found: to go on from a report, or with `--plan` only what
+/// would be cleared. Refuses a line that lacks or repeats what is cleared or the range.
 pub(crate) fn clear_asked(
     alloc: Global,
     name: &str,

@@ -47,7 +47,8 @@ pub struct SingleAsked {
     pub at: String,
 }
 
-/// `dry GRAPH TABLE RANGE [--workers N] [--progress]`: a run for each data interval of a range, its tasks answered from a table.
+/// `dry GRAPH TABLE RANGE [--workers N] [--progress]`: a run for each data interval of a range, its tasks answered
+/// from a table.
 #[derive(Drop)]
 pub struct DryAsked {
     pub graph: GraphAsked,
@@ -57,8 +58,9 @@ pub struct DryAsked {
     pub progress: bool,
 }
 
-/// `--journal PATH [--stop-after N] [--retry-failed]`: the file that tries are recorded in as they end, and gone on from; behind
-/// how many failed tries no further one begins; and whether failed tries that are recorded are made again.
+/// `--journal PATH [--stop-after N] [--retry-failed]`: the file that tries are recorded in as they end, and gone on
+/// from; behind how many failed tries no further one begins; and whether failed tries that are recorded are made
+/// again.
 #[derive(Drop)]
 pub struct JournalAsked {
     pub path: String,
@@ -66,10 +68,10 @@ pub struct JournalAsked {
     pub retry_failed: bool,
 }
 
-/// `run GRAPH RANGE [--workers N] [--progress] [--launcher PATH] [--logs FOLDER] [--journal PATH ..] [--quiet]`: a run for each
-/// data interval of a range, with the programs of its tasks. Where a launcher is named, the words of their commands are handed
-/// to it; where a folder of logs is, it keeps what they write and are given. Progress is told where that is asked for, and nothing
-/// is to be quiet.
+/// `run GRAPH RANGE [--workers N] [--progress] [--launcher PATH] [--logs FOLDER] [--journal PATH ..] [--quiet]`: a
+/// run for each data interval of a range, with the programs of its tasks. Where a launcher is named, the words of
+/// their commands are handed to it; where a folder of logs is, it keeps what they write and are given. Progress is
+/// told where that is asked for, and nothing is to be quiet.
 #[derive(Drop)]
 pub struct RunAsked {
     pub graph: GraphAsked,
@@ -105,8 +107,8 @@ pub enum ClearedAsked {
 
 /// `clear GRAPH REPORT RANGE CLEARED [--table PATH] [--workers N] [--progress] [--launcher PATH] [--logs FOLDER]
 /// [--journal PATH ..] [--quiet]`: a backfill that goes on from its report, where some tasks in runs and all that
-/// follows from them are cleared. Tries are answered from a table where one is named, else by the programs of the tasks, as `run`
-/// starts them.
+/// follows from them are cleared. Tries are answered from a table where one is named, else by the programs of the
+/// tasks, as `run` starts them.
 #[derive(Drop)]
 pub struct ClearAsked {
     pub graph: GraphAsked,
@@ -140,8 +142,9 @@ pub enum Color {
     Never,
 }
 
-/// `show GRAPH REPORT [--from T] [--to T] [--failed] [--width N] [--color WHEN]`: a report of a graph as a grid, of which the runs
-/// from a moment on or up to one may be shown, and only what failed; its width in characters, 20 to 10,000, and its colours.
+/// `show GRAPH REPORT [--from T] [--to T] [--failed] [--width N] [--color WHEN]`: a report of a graph as a grid, of
+/// which the runs from a moment on or up to one may be shown, and only what failed; its width in characters, 20 to
+/// 10,000, and its colours.
 #[derive(Drop)]
 pub struct ShowAsked {
     pub graph: GraphAsked,
@@ -153,8 +156,8 @@ pub struct ShowAsked {
     pub color: Color,
 }
 
-/// `page GRAPH REPORT [--states-only] [--journal PATH]`: the page that shows a report, from which its values are left out where only
-/// the states are asked for; it has the times of a journal where one is named.
+/// `page GRAPH REPORT [--states-only] [--journal PATH]`: the page that shows a report, from which its values are left
+/// out where only the states are asked for; it has the times of a journal where one is named.
 #[derive(Drop)]
 pub struct PageAsked {
     pub graph: GraphAsked,
@@ -170,8 +173,8 @@ pub struct TaskAsked {
     pub index: Option<i32>,
 }
 
-/// `explain GRAPH REPORT --run T [--task ID [--index N]]`: why a task in the run of a logical date has its state, or where no task
-/// is named, why the run has.
+/// `explain GRAPH REPORT --run T [--task ID [--index N]]`: why a task in the run of a logical date has its state, or
+/// where no task is named, why the run has.
 #[derive(Drop)]
 pub struct ExplainAsked {
     pub graph: GraphAsked,
@@ -204,8 +207,9 @@ pub enum Asked {
     Single(SingleAsked),
     Dry(DryAsked),
     Run(RunAsked),
-    /// `run GRAPH RANGE --keep REPORT ..` and `dry GRAPH TABLE RANGE --keep REPORT ..`: a backfill that goes on from the report of one of the
-    /// same graph, whatever shape that had and whatever runs there were; in the form that `clear` has.
+    /// `run GRAPH RANGE --keep REPORT ..` and `dry GRAPH TABLE RANGE --keep REPORT ..`: a backfill that goes on from
+    /// the report of one of the same graph, whatever shape that had and whatever runs there were; in the form that
+    /// `clear` has.
     Keep(ClearAsked),
     Clear(ClearAsked),
     /// What `Clear` would clear.
@@ -223,8 +227,8 @@ pub enum Asked {
     Completions(Shell),
 }
 
-/// What a whole line asks for: `COMMAND [--out PATH]`, of which the commands that write reports have the option. Where a file is
-/// named, the report goes there and not to standard output.
+/// What a whole line asks for: `COMMAND [--out PATH]`, of which the commands that write reports have the option.
+/// Where a file is named, the report goes there and not to standard output.
 #[derive(Drop)]
 pub struct CommandLine {
     pub command: Asked,

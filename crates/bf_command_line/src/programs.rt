@@ -12,6 +12,8 @@ use bf_workers::Workers;
 use clap::{ArgMatches, Error};
 use std::alloc::{AllocError, Global};
 
+/// The number of workers that `--workers` says; one where it isn't given. AllocError where it is no such number,
+/// which `clap` has ruled out.
 #[tactic(auto, using(crate::proofs::Rows::first_rows))]
 pub(crate) fn workers_asked(matches: &ArgMatches<'_>) -> Result<Workers, AllocError>
     ensures { IfOk result (IsWorkersBy (rows_of (found_of matches.now))) }
@@ -25,7 +27,8 @@ pub(crate) fn workers_asked(matches: &ArgMatches<'_>) -> Result<Workers, AllocEr
     }
 }
 
-/// The journal of a command of this name, where it names one.
+/// The journal that `--journal` names for the command `name`; None where it isn't given. Refuses `--stop-after` and
+/// `--retry-failed` without it.
 fn journal_asked(
     alloc: Global,
     name: &str,
@@ -47,7 +50,7 @@ fn journal_asked(
     }
 }
 
-/// The folder of logs of a command of this name, where it names one.
+/// The folder that `--logs` names for the command `name`; None where it isn't given. Refuses an empty name.
 fn logs_asked(alloc: Global, name: &str, matches: &ArgMatches<'_>) -> Result<Option<String>, Error>
     ensures ok { IfOk result (IsLogsBy (rows_of (found_of matches.now))) }
     ensures err { FailsBy (empty_wrongs
@@ -59,7 +62,8 @@ fn logs_asked(alloc: Global, name: &str, matches: &ArgMatches<'_>) -> Result<Opt
     }
 }
 
-/// What a command of this name that starts programs asks for, in the form that `run` has.
+/// What the command `name`, `run` or `clear`, asks for in common, in the form of `run`. Refuses a missing or doubled
+/// range, journal options without a journal, and an empty name of logs.
 pub(crate) fn programs_asked(
     alloc: Global,
     name: &str,

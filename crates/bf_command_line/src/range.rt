@@ -10,6 +10,7 @@ use crate::value::{is_flag_set, optional_text, required_text};
 use clap::{ArgMatches, Error};
 use std::alloc::{AllocError, Global};
 
+/// The graph file that a command names, and the zone file where it names one, by what `clap` found.
 pub(crate) fn graph_asked(alloc: Global, matches: &ArgMatches<'_>) -> Result<GraphAsked, AllocError>
     ensures { IfOk result (IsGraphBy (rows_of (found_of matches.now))) }
 {
@@ -19,7 +20,8 @@ pub(crate) fn graph_asked(alloc: Global, matches: &ArgMatches<'_>) -> Result<Gra
     })
 }
 
-/// Where the data intervals of a command of this name start.
+/// Where the data intervals start that the command `name` asks for. Refuses a line that doesn't say it, or says it
+/// both by `--on` and by `--from` or `--to`.
 fn starts_asked(alloc: Global, name: &str, matches: &ArgMatches<'_>) -> Result<StartsAsked, Error>
     ensures ok { IfOk result (IsStartsBy (rows_of (found_of matches.now))) }
     ensures err { FailsBy (range_wrongs (rows_of (found_of matches.now))) result }
@@ -35,6 +37,7 @@ fn starts_asked(alloc: Global, name: &str, matches: &ArgMatches<'_>) -> Result<S
     }
 }
 
+/// The range of runs that the command `name` asks for, by what `clap` found. Refuses a line without one, or with two.
 pub(crate) fn range_asked(
     alloc: Global,
     name: &str,

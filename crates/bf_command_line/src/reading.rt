@@ -30,6 +30,8 @@ pub fn asked(alloc: Global, words: &[String]) -> Result<CommandLine, Error>
     line_asked(alloc, &matches)
 }
 
+/// What `clap` finds in the words of a line, the first of which is the program's own name; its refusal or its help as
+/// an error.
 fn matches_of<'a>(alloc: Global, words: &'a [String]) -> Result<ArgMatches<'a>, Error>
     ensures ok { IfOk result (λ m. subcommand_rows_of m
         ≡ subcommand_of backfill_app (map string_bytes words.entry.now)) }
@@ -40,6 +42,8 @@ fn matches_of<'a>(alloc: Global, words: &'a [String]) -> Result<ArgMatches<'a>, 
 
 // `clap` has seen to it that a subcommand and what it requires are there. No contract hands this on
 // for a subcommand's own arguments, so that the arms without them answer as want of memory does.
+/// What a whole command line asks for, by what `clap` found: a command, and the file for its report where `--out`
+/// names one. Refuses what `clap` alone doesn't.
 fn line_asked(alloc: Global, matches: &ArgMatches<'_>) -> Result<CommandLine, Error>
     ensures ok { IfOk result (IsLineBy (subcommand_rows_of matches.now)) }
     ensures err { FailsBy (found_wrongs (subcommand_rows_of matches.now)) result }
@@ -54,7 +58,8 @@ fn line_asked(alloc: Global, matches: &ArgMatches<'_>) -> Result<CommandLine, Er
     }
 }
 
-/// Whether a report of this path would take the place of what the command reads, or of its journal.
+/// Whether `path` is, letter by letter, also named as a file that the command reads, or as its journal. The report
+/// that is gone on from doesn't count.
 fn is_overwritten(matches: &ArgMatches<'_>, path: &str) -> bool
     ensures { result ≡ is_overwritten_in (rows_of (found_of matches.now)) (Some path.now) }
 {
@@ -65,7 +70,8 @@ fn is_overwritten(matches: &ArgMatches<'_>, path: &str) -> bool
         || says_word(matches, "journal", path)
 }
 
-/// Where the report of a command of this name goes, if it isn't printed.
+/// The path that `--out` names for the report of the command `name`; None where it isn't given. Refuses one that is
+/// also named as a file that the command reads, or as its journal.
 fn out_asked(alloc: Global, name: &str, matches: &ArgMatches<'_>) -> Result<Option<String>, Error>
     ensures ok { IfOk result (λ out. first_of (codes "out") (rows_of (found_of matches.now))
         ≡ option_map string_bytes out) }
@@ -80,7 +86,7 @@ fn out_asked(alloc: Global, name: &str, matches: &ArgMatches<'_>) -> Result<Opti
     Ok(Some(path))
 }
 
-/// What the subcommand of this name asks for.
+/// What the command `name` asks for, by what `clap` found for it. Refuses what `clap` alone doesn't.
 fn subcommand_asked(alloc: Global, name: &str, matches: &ArgMatches<'_>) -> Result<Asked, Error>
     ensures ok { IfOk result (IsAskedBy (Some (name.now, rows_of (found_of matches.now)))) }
     ensures err { FailsBy (command_wrongs name.now (rows_of (found_of matches.now))) result }
@@ -99,7 +105,8 @@ fn subcommand_asked(alloc: Global, name: &str, matches: &ArgMatches<'_>) -> Resu
     }
 }
 
-/// The same, of those over a graph that have no range.
+/// What the command `name`, one of `check`, `single` and `page`, asks for. AllocError for any other name, which
+/// `clap` has ruled out, or where memory is wanting.
 fn rangeless_command_asked(
     alloc: Global,
     name: &str,
@@ -115,6 +122,7 @@ fn rangeless_command_asked(
     }
 }
 
+/// What `check` asks for, by what `clap` found.
 fn check_asked(alloc: Global, matches: &ArgMatches<'_>) -> Result<Asked, AllocError>
     ensures { IfOk result (IsAskedBy (Some (codes "check", rows_of (found_of matches.now)))) }
 {
@@ -124,6 +132,7 @@ fn check_asked(alloc: Global, matches: &ArgMatches<'_>) -> Result<Asked, AllocEr
     }))
 }
 
+/// What `list`, which is `name`, asks for, by what `clap` found. Refuses a line without a range, or with two.
 fn list_asked(alloc: Global, name: &str, matches: &ArgMatches<'_>) -> Result<Asked, Error>
     ensures ok { IfOk result (IsAskedBy (Some (codes "list", rows_of (found_of matches.now)))) }
     ensures err { FailsBy (range_wrongs (rows_of (found_of matches.now))) result }
@@ -133,6 +142,7 @@ fn list_asked(alloc: Global, name: &str, matches: &ArgMatches<'_>) -> Result<Ask
     Ok(Asked::List(ListAsked { graph, range }))
 }
 
+/// What `single` asks for, by what `clap` found.
 fn single_asked(alloc: Global, matches: &ArgMatches<'_>) -> Result<Asked, AllocError>
     ensures { IfOk result (IsAskedBy (Some (codes "single", rows_of (found_of matches.now)))) }
 {

@@ -49,42 +49,43 @@ const NO_COLOR_WORD: &str = "invalid value for '--color <WHEN>'\n\
 const NO_SHELL: &str = "invalid value for '<SHELL>'\n\
     \x20 [possible values: bash, zsh, fish]";
 
-/// What is said where it isn't told where data intervals start.
+/// The refusal of a line of the command `name` that doesn't say where data intervals start.
 pub(crate) fn missing_range_error(alloc: Global, name: &str) -> Result<Error, AllocError>
     ensures { IfOk result (λ e. kind_of e ≡ ErrorKind.MissingRequiredArgument) }
 {
     refusal_of(alloc, name, ErrorKind::MissingRequiredArgument, NO_RANGE)
 }
 
-/// What is said where that is told twice.
+/// The refusal of a line of the command `name` that says both by `--on` and by `--from` or `--to` where data
+/// intervals start.
 pub(crate) fn two_ranges_error(alloc: Global, name: &str) -> Result<Error, AllocError>
     ensures { IfOk result (λ e. kind_of e ≡ ErrorKind.ArgumentConflict) }
 {
     refusal_of(alloc, name, ErrorKind::ArgumentConflict, TWO_RANGES)
 }
 
-/// What is said of `--stop-after` and `--retry-failed` without a journal.
+/// The refusal of `--stop-after` or `--retry-failed` without `--journal`, for the command `name`.
 pub(crate) fn missing_journal_error(alloc: Global, name: &str) -> Result<Error, AllocError>
     ensures { IfOk result (λ e. kind_of e ≡ ErrorKind.MissingRequiredArgument) }
 {
     refusal_of(alloc, name, ErrorKind::MissingRequiredArgument, NO_JOURNAL)
 }
 
-/// What is said of a folder of logs without a name.
+/// The refusal of `--logs` with an empty name, for the command `name`.
 pub(crate) fn unnamed_folder_error(alloc: Global, name: &str) -> Result<Error, AllocError>
     ensures { IfOk result (λ e. kind_of e ≡ ErrorKind.InvalidValue) }
 {
     refusal_of(alloc, name, ErrorKind::InvalidValue, NO_FOLDER)
 }
 
-/// What is said of a report that would take the place of another file.
+/// The refusal of an `--out` that would overwrite a file that the command `name` reads, or its journal.
 pub(crate) fn overwriting_error(alloc: Global, name: &str) -> Result<Error, AllocError>
     ensures { IfOk result (λ e. kind_of e ≡ ErrorKind.ArgumentConflict) }
 {
     refusal_of(alloc, name, ErrorKind::ArgumentConflict, OVERWRITING)
 }
 
-/// What is said where it isn't told what is cleared.
+/// The refusal of `clear` where no option says what is cleared.
 pub(crate) fn nothing_cleared_error(alloc: Global) -> Result<Error, AllocError>
     ensures { IfOk result (λ e. kind_of e ≡ ErrorKind.MissingRequiredArgument) }
 {
@@ -96,28 +97,28 @@ pub(crate) fn nothing_cleared_error(alloc: Global) -> Result<Error, AllocError>
     )
 }
 
-/// What is said where that is told in two ways.
+/// The refusal of `clear` where options say in two ways what is cleared.
 pub(crate) fn cleared_twice_error(alloc: Global) -> Result<Error, AllocError>
     ensures { IfOk result (λ e. kind_of e ≡ ErrorKind.ArgumentConflict) }
 {
     refusal_of(alloc, "clear", ErrorKind::ArgumentConflict, CLEARED_TWICE)
 }
 
-/// What is said of more tasks than runs, or fewer.
+/// The refusal of `clear` with more values of `--task` than of `--run`, or fewer.
 pub(crate) fn unpaired_tasks_error(alloc: Global) -> Result<Error, AllocError>
     ensures { IfOk result (λ e. kind_of e ≡ ErrorKind.MissingRequiredArgument) }
 {
     refusal_of(alloc, "clear", ErrorKind::MissingRequiredArgument, UNPAIRED)
 }
 
-/// What is said of more map indexes than tasks, or fewer.
+/// The refusal of `clear` with more values of `--index` than of `--task`, or fewer.
 pub(crate) fn unpaired_indexes_error(alloc: Global) -> Result<Error, AllocError>
     ensures { IfOk result (λ e. kind_of e ≡ ErrorKind.WrongNumberOfValues) }
 {
     refusal_of(alloc, "clear", ErrorKind::WrongNumberOfValues, ODD_INDEXES)
 }
 
-/// What is said of a map index without a task.
+/// The refusal of `explain` with `--index` but without a task.
 pub(crate) fn missing_task_error(alloc: Global) -> Result<Error, AllocError>
     ensures { IfOk result (λ e. kind_of e ≡ ErrorKind.MissingRequiredArgument) }
 {
@@ -129,35 +130,35 @@ pub(crate) fn missing_task_error(alloc: Global) -> Result<Error, AllocError>
     )
 }
 
-/// What is said where it isn't told which report is shown.
+/// The refusal of `show` where it isn't told which report is shown.
 pub(crate) fn missing_report_error(alloc: Global) -> Result<Error, AllocError>
     ensures { IfOk result (λ e. kind_of e ≡ ErrorKind.MissingRequiredArgument) }
 {
     refusal_of(alloc, "show", ErrorKind::MissingRequiredArgument, NO_REPORT)
 }
 
-/// What is said of `--json` beside what a grid has.
+/// The refusal of `show --json` with an option of a grid.
 pub(crate) fn json_with_grid_error(alloc: Global) -> Result<Error, AllocError>
     ensures { IfOk result (λ e. kind_of e ≡ ErrorKind.ArgumentConflict) }
 {
     refusal_of(alloc, "show", ErrorKind::ArgumentConflict, JSON_WITH_MORE)
 }
 
-/// What is said of a word that doesn't tell when to colour.
+/// The refusal of a word for `--color` that doesn't say when to colour.
 pub(crate) fn unknown_color_error(alloc: Global) -> Result<Error, AllocError>
     ensures { IfOk result (λ e. kind_of e ≡ ErrorKind.InvalidValue) }
 {
     refusal_of(alloc, "show", ErrorKind::InvalidValue, NO_COLOR_WORD)
 }
 
-/// What is said of a word that is no format.
+/// The refusal of a word that is no format.
 pub(crate) fn unknown_format_error(alloc: Global) -> Result<Error, AllocError>
     ensures { IfOk result (λ e. kind_of e ≡ ErrorKind.InvalidValue) }
 {
     refusal_of(alloc, "schema", ErrorKind::InvalidValue, NO_FORMAT)
 }
 
-/// What is said of a word that is no shell.
+/// The refusal of a word that is no shell.
 pub(crate) fn unknown_shell_error(alloc: Global) -> Result<Error, AllocError>
     ensures { IfOk result (λ e. kind_of e ≡ ErrorKind.InvalidValue) }
 {

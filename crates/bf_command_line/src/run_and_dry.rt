@@ -11,6 +11,8 @@ use crate::value::{is_flag_set, optional_text, required_text};
 use clap::{ArgMatches, Error};
 use std::alloc::Global;
 
+/// What `run`, which is `name`, asks for, by what `clap` found; with `--keep` to go on from a report, with nothing
+/// cleared. Refuses a missing or doubled range, journal options without a journal, and an empty name of logs.
 pub(crate) fn run_asked(alloc: Global, name: &str, matches: &ArgMatches<'_>) -> Result<Asked, Error>
     ensures ok { IfOk result (IsAskedBy (Some (codes "run", rows_of (found_of matches.now)))) }
     ensures err { FailsBy (programs_wrongs (rows_of (found_of matches.now))) result }
@@ -34,6 +36,8 @@ pub(crate) fn run_asked(alloc: Global, name: &str, matches: &ArgMatches<'_>) -> 
     }
 }
 
+/// What `dry`, which is `name`, asks for, by what `clap` found; with `--keep` to go on from a report, with nothing
+/// cleared. Refuses a line without a range, or with two.
 pub(crate) fn dry_asked(alloc: Global, name: &str, matches: &ArgMatches<'_>) -> Result<Asked, Error>
     ensures ok { IfOk result (IsAskedBy (Some (codes "dry", rows_of (found_of matches.now)))) }
     ensures err { FailsBy (range_wrongs (rows_of (found_of matches.now))) result }

@@ -12,7 +12,7 @@ use crate::value::{is_flag_set, is_given, optional_number, optional_text, requir
 use clap::{ArgMatches, Error};
 use std::alloc::Global;
 
-/// Whether something is told of a grid.
+/// Whether an argument of `show` is given that `--json` doesn't go with.
 fn has_grid_options(matches: &ArgMatches<'_>) -> bool
     ensures { result ≡ has_grid_options_in (rows_of (found_of matches.now)) }
 {
@@ -26,7 +26,8 @@ fn has_grid_options(matches: &ArgMatches<'_>) -> bool
         || is_flag_set(matches, "failed")
 }
 
-/// A grid of a report beside its graph.
+/// What `show` asks for where a grid is shown, by what `clap` found. Refuses a word of `--color` that it doesn't
+/// know.
 fn grid_asked(alloc: Global, matches: &ArgMatches<'_>) -> Result<Asked, Error>
     requires { is_given_in (codes "json") (rows_of (found_of matches.now)) ≡ false }
     ensures ok { IfOk result (IsAskedBy (Some (codes "show", rows_of (found_of matches.now)))) }
@@ -45,7 +46,8 @@ fn grid_asked(alloc: Global, matches: &ArgMatches<'_>) -> Result<Asked, Error>
     }))
 }
 
-/// What `show` asks for: a grid, or lines of JSON.
+/// What `show` asks for, by what `clap` found: a grid, or lines of JSON. Refuses a line without a report, or with
+/// `--json` and another argument.
 pub(crate) fn show_asked(alloc: Global, matches: &ArgMatches<'_>) -> Result<Asked, Error>
     ensures ok { IfOk result (IsAskedBy (Some (codes "show", rows_of (found_of matches.now)))) }
     ensures err { FailsBy (show_wrongs (rows_of (found_of matches.now))) result }

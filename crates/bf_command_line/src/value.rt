@@ -6,7 +6,7 @@ ghost use Rattle.bf_command_line.specs.Asked.{texts_in, is_given_in, IsIntegerIf
 use clap::ArgMatches;
 use std::alloc::{AllocError, Global};
 
-/// How many values an argument has.
+/// How many values `clap` found for the argument `id`; 0 where it isn't given.
 pub(crate) fn value_count_of(matches: &ArgMatches<'_>, id: &str) -> usize
     ensures { result ≡ length (texts_in id.now (rows_of (found_of matches.now))) }
 {
@@ -16,7 +16,7 @@ pub(crate) fn value_count_of(matches: &ArgMatches<'_>, id: &str) -> usize
     }
 }
 
-/// The value of an argument in this place of its values.
+/// The value at `place`, from 0, of those that `clap` found for the argument `id`; None where there are fewer.
 pub(crate) fn text_at<'a>(matches: &ArgMatches<'a>, id: &str, place: usize) -> Option<&'a str>
     ensures { option_map (λ t. t.now) result
         ≡ slice_get (texts_in id.now (rows_of (found_of matches.now))) place }
@@ -27,6 +27,8 @@ pub(crate) fn text_at<'a>(matches: &ArgMatches<'a>, id: &str, place: usize) -> O
     }
 }
 
+/// A copy of the value at `place`, from 0, of those of the argument `id`. AllocError where there are fewer, or memory
+/// is wanting.
 pub(crate) fn required_text_at(
     alloc: Global,
     matches: &ArgMatches<'_>,
@@ -42,6 +44,7 @@ pub(crate) fn required_text_at(
     }
 }
 
+/// A copy of the first value of the argument `id`; None where it has none.
 #[tactic(auto, using(crate::proofs::Rows::first_rows))]
 pub(crate) fn optional_text(
     alloc: Global,
@@ -57,6 +60,8 @@ pub(crate) fn optional_text(
     }
 }
 
+/// A copy of the first value of the argument `id`. AllocError where it has none, which `clap` has ruled out, or
+/// memory is wanting.
 #[tactic(auto, using(crate::proofs::Rows::first_rows))]
 pub(crate) fn required_text(
     alloc: Global,
@@ -72,7 +77,7 @@ pub(crate) fn required_text(
     }
 }
 
-/// Whether a flag was given.
+/// Whether the flag `id` was given.
 #[tactic(auto, using(crate::proofs::Rows::first_rows))]
 pub(crate) fn is_flag_set(matches: &ArgMatches<'_>, id: &str) -> bool
     ensures { result ≡ says_true (first_of id.now (rows_of (found_of matches.now))) }
@@ -83,7 +88,7 @@ pub(crate) fn is_flag_set(matches: &ArgMatches<'_>, id: &str) -> bool
     }
 }
 
-/// Whether an argument says this.
+/// Whether the first value of the argument `id` is this word; false where it has none.
 #[tactic(auto, using(crate::proofs::Rows::first_rows))]
 pub(crate) fn says_word(matches: &ArgMatches<'_>, id: &str, words: &str) -> bool
     ensures { result ≡ says_word_in (first_of id.now (rows_of (found_of matches.now))) words.now }
@@ -94,7 +99,8 @@ pub(crate) fn says_word(matches: &ArgMatches<'_>, id: &str, words: &str) -> bool
     }
 }
 
-/// The number that an option says, where it is given.
+/// The number that the option `id` says; None where it isn't given. AllocError where it says no number, which `clap`
+/// has ruled out.
 #[tactic(auto, using(crate::proofs::Rows::first_rows))]
 pub(crate) fn optional_number(matches: &ArgMatches<'_>, id: &str) -> Result<Option<u32>, AllocError>
     ensures { IfOk result (IsNumberIfGiven (first_of id.now (rows_of (found_of matches.now)))) }
@@ -108,7 +114,8 @@ pub(crate) fn optional_number(matches: &ArgMatches<'_>, id: &str) -> Result<Opti
     }
 }
 
-/// The same, of a number that may be negative.
+/// The whole number, maybe negative, that the option `id` says; None where it isn't given. AllocError where it says
+/// no number, which `clap` has ruled out.
 #[tactic(auto, using(crate::proofs::Rows::first_rows))]
 pub(crate) fn optional_integer(
     matches: &ArgMatches<'_>,
@@ -125,7 +132,7 @@ pub(crate) fn optional_integer(
     }
 }
 
-/// Whether an argument has a value.
+/// Whether the argument `id` has a value.
 #[tactic(auto, using(crate::proofs::Rows::first_rows))]
 pub(crate) fn is_given(matches: &ArgMatches<'_>, id: &str) -> bool
     ensures { result ≡ is_given_in id.now (rows_of (found_of matches.now)) }

@@ -11,6 +11,7 @@ use crate::value::{is_flag_set, optional_integer, optional_text, required_text};
 use clap::{ArgMatches, Error};
 use std::alloc::{AllocError, Global};
 
+/// What `page` asks for, by what `clap` found.
 pub(crate) fn page_asked(alloc: Global, matches: &ArgMatches<'_>) -> Result<Asked, AllocError>
     ensures { IfOk result (IsAskedBy (Some (codes "page", rows_of (found_of matches.now)))) }
 {
@@ -22,7 +23,8 @@ pub(crate) fn page_asked(alloc: Global, matches: &ArgMatches<'_>) -> Result<Aske
     }))
 }
 
-/// The task that is explained, where one is named.
+/// The task that `explain` names, with its map index where it names one; None where no task is named. Refuses a map
+/// index without a task.
 fn task_asked(alloc: Global, matches: &ArgMatches<'_>) -> Result<Option<TaskAsked>, Error>
     ensures ok { IfOk result (IsTaskBy (rows_of (found_of matches.now))) }
     ensures err { FailsBy (explain_wrongs (rows_of (found_of matches.now))) result }
@@ -35,6 +37,7 @@ fn task_asked(alloc: Global, matches: &ArgMatches<'_>) -> Result<Option<TaskAske
     }
 }
 
+/// What `explain` asks for, by what `clap` found. Refuses a map index without a task.
 pub(crate) fn explain_asked(alloc: Global, matches: &ArgMatches<'_>) -> Result<Asked, Error>
     ensures ok { IfOk result (IsAskedBy (Some (codes "explain", rows_of (found_of matches.now)))) }
     ensures err { FailsBy (explain_wrongs (rows_of (found_of matches.now))) result }
@@ -48,6 +51,7 @@ pub(crate) fn explain_asked(alloc: Global, matches: &ArgMatches<'_>) -> Result<A
     }))
 }
 
+/// What `answers` asks for, by what `clap` found: the path of a report.
 pub(crate) fn answers_asked(alloc: Global, matches: &ArgMatches<'_>) -> Result<Asked, AllocError>
     ensures { IfOk result (IsAskedBy (Some (codes "answers", rows_of (found_of matches.now)))) }
 {

@@ -34,6 +34,7 @@ use std::sync::Wait;
 use std::thread::Threads;
 use std::time::Clock;
 
+/// The starts of these data intervals, in their order.
 fn starts_of(alloc: Global, intervals: &[Interval]) -> Result<Vec<Timestamp>, OutOfMemory>
     ensures { IfOk result (λ starts. starts.items ≡ map (λ i. i.start) intervals.now) }
 {
@@ -45,7 +46,7 @@ fn starts_of(alloc: Global, intervals: &[Interval]) -> Result<Vec<Timestamp>, Ou
     )
 }
 
-/// A table's answers to the tries of these runs.
+/// A runner that answers each try of these runs from a table.
 pub(crate) fn runner_over<'p>(
     alloc: Global,
     plan: &'p Plan,
@@ -58,7 +59,7 @@ pub(crate) fn runner_over<'p>(
     TableRunner::new(alloc, table, plan, &starts)
 }
 
-/// The end of a backfill in which a table answers what isn't kept, and the calling thread makes the tries.
+/// Runs a backfill to its end in the calling thread. Kept tries end as they did; a table answers the others.
 fn resume_alone<'p, K: KeptTries>(
     plan: &'p Plan,
     runs: &Runs,
@@ -76,7 +77,8 @@ fn resume_alone<'p, K: KeptTries>(
     }
 }
 
-/// The end of a backfill in which a table answers what isn't kept. A delay takes no time.
+/// Runs a backfill to its end. Tries in `kept` end as they did; a table answers the others. A delay between tries
+/// takes no time. A fault where memory is wanting or a thread can't be started.
 fn resume_over_table<'p, RT: Screen + Threads + Wait + Clock + Sync, K: KeptTries + Sync>(
     crew: &Crew<'_, RT>,
     plan: &'p Plan,
@@ -107,7 +109,9 @@ fn resume_over_table<'p, RT: Screen + Threads + Wait + Clock + Sync, K: KeptTrie
     }
 }
 
-/// The end of a backfill in which programs answer what isn't kept.
+/// Runs a backfill to its end. Tries in `kept` end as they did; the others are programs. Tells on the screen where
+/// logs are incomplete. A fault where a program can't be waited for, a log can't be made, or a thread can't be
+/// started.
 fn resume_by_programs<
     'p,
     RT: Starter + Screen + Threads + Wait + Clock + Sync,
@@ -141,7 +145,8 @@ fn resume_by_programs<
     }
 }
 
-/// The end of a backfill in which a table answers what isn't kept, where there is one, and else the programs of the tasks.
+/// Runs a backfill to its end. Tries in `kept` end as they did; the others are answered by the table, or are programs
+/// where `answers` is None.
 fn resume_backfill<'p, RT: Starter + Screen + Threads + Wait + Clock + Sync, K: KeptTries + Sync>(
     crew: &Crew<'_, RT>,
     plan: &'p Plan,
@@ -166,8 +171,8 @@ fn resume_backfill<'p, RT: Starter + Screen + Threads + Wait + Clock + Sync, K: 
     }
 }
 
-/// Writes the report of a backfill that goes on from what is kept, and says whether every run is a success. A table answers
-/// what isn't kept, where there is one, and else the programs of the tasks.
+/// Runs a backfill to its end and writes its report; true where every run is a success. Tries in `kept` end as they
+/// did; the others are answered by the table, or are programs where `answers` is None.
 pub(crate) fn write_backfill<
     RT: Starter + Screen + Threads + Wait + Clock + Sync,
     K: KeptTries + Sync,

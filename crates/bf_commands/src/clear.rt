@@ -34,7 +34,7 @@ use std::sync::Wait;
 use std::thread::Threads;
 use std::time::Clock;
 
-/// The answers that a table's bytes say, where there is one.
+/// The table in these bytes; None where there are no bytes. A fault where they are no table.
 fn answers_in(alloc: Global, table: Option<&[u8]>) -> Result<Option<Table>, CommandFault>
     ensures ok { IfOk result (λ answers. AreAnswersIn (option_map (λ s. s.now) table.entry)
         answers) }
@@ -49,14 +49,16 @@ fn answers_in(alloc: Global, table: Option<&[u8]>) -> Result<Option<Table>, Comm
     }
 }
 
-/// What the files of the command come to but for the report: a plan with its runs, and the answers of the table, where there is one.
+/// What the files of the command hold but for the report: a plan with its runs, and the answers of the table, None
+/// where no table is named.
 #[derive(Drop)]
 pub struct Prepared {
     pub dated: DatedPlan,
     pub answers: Option<Table>,
 }
 
-/// Looks at the graph, then at the table, and then at the range.
+/// The plan of a graph file with its runs in a range, and the answers of a table, None where there are no bytes of
+/// one. The graph's faults go before the table's, and these before the range's.
 pub fn prepare_backfill(
     alloc: Global,
     graph: &[u8],
@@ -77,8 +79,8 @@ pub fn prepare_backfill(
     Ok(Prepared { dated, answers })
 }
 
-/// What a backfill goes over that goes on from its report, what is kept of that, and what the head of a journal tells of what is
-/// cleared.
+/// A backfill that goes on from its report: its plan and runs, the tries that are kept of the report, and the tasks
+/// that the head of its journal says are cleared.
 #[derive(Drop)]
 pub struct Clearing<'a> {
     pub dated: &'a DatedPlan,
@@ -86,7 +88,9 @@ pub struct Clearing<'a> {
     pub cleared: Vec<ClearedTask>,
 }
 
-/// Clears this in a report, with all that follows from it.
+/// What is kept of a report where `what` is cleared with all that follows from it. A fault where the report isn't of
+/// this graph and, unless nothing is cleared, these runs, or a seed or line names nothing in it. Nothing is run or
+/// written.
 pub fn clear_in_report<'a>(
     alloc: Global,
     dated: &'a DatedPlan,
@@ -110,8 +114,8 @@ pub fn clear_in_report<'a>(
     })
 }
 
-/// Writes the report of a backfill that goes on from a report where this is cleared, with all that follows from it, or nothing is.
-/// Says whether every run is a success.
+/// Goes on from a report, of which `what` is cleared with all that follows from it, and writes the new report; true
+/// where every run is a success. A table answers the other tries where one was prepared, else programs.
 pub fn write_resumed_report<RT: Starter + Screen + Threads + Wait + Clock + Sync, W: Write>(
     crew: &Crew<'_, RT>,
     prepared: Prepared,
@@ -148,8 +152,8 @@ pub fn write_resumed_report<RT: Starter + Screen + Threads + Wait + Clock + Sync
     )
 }
 
-/// Goes on from a journal, and else from what is kept of a report, records each other try there as it ends, and writes the report.
-/// Says whether every run is a success.
+/// Goes on from a journal, and else from what is kept of a report, and writes the new report. Each other try is
+/// recorded in the journal as it ends; a table answers it, or a program where `answers` is None.
 pub fn record_resumed_report<RT, D, W>(
     crew: &Crew<'_, RT>,
     clearing: &Clearing<'_>,

@@ -17,6 +17,8 @@ use bf_report::Report;
 use bf_value::OutOfMemory;
 use std::alloc::Global;
 
+/// Adds the line of a cleared task, with its line feed: the start of its run, its id, and its map index where it has
+/// one.
 fn push_cleared(text: &mut String, cleared: &ClearedTask) -> Result<(), OutOfMemory>
     ensures { OnOk result (string_bytes text.new ≡ string_bytes text.old
         ++ cleared_line cleared.now) }
@@ -29,6 +31,7 @@ fn push_cleared(text: &mut String, cleared: &ClearedTask) -> Result<(), OutOfMem
     Ok(())
 }
 
+/// A line for each of these cleared tasks, with its line feed.
 fn lines_of(alloc: Global, cleared: &[ClearedTask]) -> Result<String, OutOfMemory>
     ensures { IfOk result (λ text. string_bytes text ≡ flat_map cleared_line cleared.now) }
 {
@@ -39,6 +42,7 @@ fn lines_of(alloc: Global, cleared: &[ClearedTask]) -> Result<String, OutOfMemor
     Ok(text)
 }
 
+/// The place before the one at index `place`; None for the first and where there is none.
 fn place_before(places: &[Place], place: usize) -> Option<&Place>
     ensures { option_copied result ≡ place_before_in places.now place }
 {
@@ -48,6 +52,7 @@ fn place_before(places: &[Place], place: usize) -> Option<&Place>
     places.get(place - 1)
 }
 
+/// Whether the place at index `place` is in another run than the one before it; true where either isn't there.
 fn begins_run(places: &[Place], place: usize) -> bool
     ensures { result ≡ begins_run_in places.now place }
 {
@@ -57,6 +62,8 @@ fn begins_run(places: &[Place], place: usize) -> bool
     }
 }
 
+/// Whether the place at index `place` is of another task or run than the one before it; true where either isn't
+/// there.
 fn begins_task(places: &[Place], place: usize) -> bool
     ensures { result ≡ begins_task_in places.now place }
 {
@@ -66,6 +73,7 @@ fn begins_task(places: &[Place], place: usize) -> bool
     }
 }
 
+/// How many runs these places are in, where those in one run are next to each other.
 fn count_runs(places: &[Place]) -> usize
     ensures { result ≡ runs_in places.now }
 {
@@ -76,6 +84,7 @@ fn count_runs(places: &[Place]) -> usize
     count
 }
 
+/// How many tasks in runs these places are of, where those of one task in a run are next to each other.
 fn count_tasks(places: &[Place]) -> usize
     ensures { result ≡ tasks_in places.now }
 {
@@ -86,6 +95,7 @@ fn count_tasks(places: &[Place]) -> usize
     count
 }
 
+/// Adds the last line, with its line feed, as `3 tasks in 2 runs`. There is no singular.
 fn push_sum(text: &mut String, places: &[Place]) -> Result<(), OutOfMemory>
     ensures { OnOk result (string_bytes text.new ≡ string_bytes text.old ++ sum_line places.now) }
 {
@@ -94,7 +104,8 @@ fn push_sum(text: &mut String, places: &[Place]) -> Result<(), OutOfMemory>
     Ok(())
 }
 
-/// The lines and the sum of what is cleared.
+/// The text of a clear plan: a line for each cleared task in a run, and their sum. A fault where the report isn't of
+/// this graph and these runs, or what is to be cleared isn't in it.
 fn clear_plan_text(
     alloc: Global,
     dated: &DatedPlan,
@@ -115,8 +126,9 @@ fn clear_plan_text(
     Ok(text)
 }
 
-/// Writes what is cleared in a report, with all that follows from it: a line for each task in a run, by date and in the order of the
-/// file, and how many these are. Of a task of which some instances are cleared and others aren't, each has a line. Nothing is run.
+/// Writes what is cleared in a report, with all that follows from it: a line for each task in a run, by date and in
+/// file order, or for each instance where others of its task aren't cleared, and how many tasks and runs these are.
+/// Nothing is run.
 pub fn write_clear_plan<W: Write>(
     alloc: Global,
     dated: &DatedPlan,

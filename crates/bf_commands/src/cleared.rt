@@ -29,6 +29,7 @@ pub enum ToClear {
     Nothing,
 }
 
+/// The places that seeds name in a plan and its runs. A fault where a seed names none.
 fn places_of_seeds(
     alloc: Global,
     dated: &DatedPlan,
@@ -45,7 +46,8 @@ fn places_of_seeds(
     Ok(places_of(alloc, &dated.plan, intervals, seeds)?)
 }
 
-/// The places that are cleared, by the numbers of their tasks and runs.
+/// The places of a report that are to be cleared, without what follows from them. A fault where a seed names none or
+/// the seeds file is wrong.
 pub(crate) fn places_to_clear(
     alloc: Global,
     dated: &DatedPlan,
@@ -68,7 +70,8 @@ pub(crate) fn places_to_clear(
     }
 }
 
-/// What is kept of a report where these places are cleared.
+/// What is kept of a report where these places are cleared with what follows from them. A fault where the report
+/// isn't of this graph and, unless `what` is nothing, of these tasks and runs.
 pub(crate) fn kept_of<'a>(
     alloc: Global,
     dated: &'a DatedPlan,

@@ -24,15 +24,15 @@ use std::thread;
 use std::thread::{Scope, Threads};
 use std::time::Clock;
 
-/// What is told beside the report, while programs run, without each being asked for: progress, and which tries fail.
+/// What is told unasked beside the report while programs run: progress, and which tries fail.
 #[derive(Clone, Copy, Debug, Drop)]
 pub struct Tells {
     pub progress: bool,
     pub failures: bool,
 }
 
-/// A machine that tries run on, with its memory, how many of them may run at once, whether progress is asked for, what is told
-/// beside, and how programs are launched.
+/// A machine that tries run on, with its memory, how many of them may run at once, whether progress is asked for,
+/// what is told beside, and how programs are launched.
 #[derive(Drop)]
 pub struct Crew<'m, RT> {
     pub rt: &'m RT,
@@ -44,7 +44,8 @@ pub struct Crew<'m, RT> {
 }
 
 impl<'m, RT> Crew<'m, RT> {
-    /// The crew that is asked for, which tells nothing beside, and launches each program by itself and without logs.
+    /// The crew for so many workers, with progress where asked for; it tells nothing else, has no launcher and keeps
+    /// no logs.
     pub fn new(rt: &'m RT, alloc: Global, workers: Workers, progress: bool) -> Crew<'m, RT>
         ensures machine { result.rt ≡ rt.entry }
         ensures workers { result.workers ≡ workers }
@@ -67,7 +68,7 @@ impl<'m, RT> Crew<'m, RT> {
         }
     }
 
-    /// The same crew, which launches programs so, and tells this beside.
+    /// This crew, which launches programs by `launching`, and tells unasked what `tells` says.
     pub fn with_launching(self, launching: Launching<'m>, tells: Tells) -> Crew<'m, RT>
         ensures machine { result.rt ≡ self.entry.rt }
         ensures workers { result.workers ≡ self.entry.workers }
@@ -84,7 +85,7 @@ impl<'m, RT> Crew<'m, RT> {
         }
     }
 
-    /// The same crew, for runs at whose moments clocks show this.
+    /// This crew for other runs; `clocks` has for each what the clocks of the graph's zone show at its moment.
     pub(crate) fn with_clocks<'c>(&self, clocks: &'c [Moment]) -> Crew<'c, RT>
     where
         'm: 'c,
@@ -107,7 +108,8 @@ impl<'m, RT> Crew<'m, RT> {
         }
     }
 
-    /// This crew's backfill of these runs of a plan, which stopped, and of whose logs this is known where programs were started.
+    /// A backfill of this crew that stopped: its plan, its runs, its folder of logs, and whether a log couldn't be
+    /// made. `log_faults` is None where no programs were started.
     pub(crate) fn stopped_backfill<'a>(
         &self,
         plan: &'a Plan,
@@ -132,8 +134,8 @@ impl<'m, RT> Crew<'m, RT> {
         }
     }
 
-    /// Whether the calling thread makes the tries that a table answers. To hand one to a worker takes longer than to answer it, so workers are started
-    /// only where progress is told beside them.
+    /// Whether the calling thread makes the tries that a table answers: where progress isn't asked for. Else workers
+    /// make them, though to hand a try over takes longer than to answer it.
     pub(crate) fn is_single_threaded(&self) -> bool
         ensures { result ≡ is_single_threaded_in self.now.progress }
     {
@@ -142,7 +144,8 @@ impl<'m, RT> Crew<'m, RT> {
 }
 
 impl<'m, RT: Screen + Threads + Wait + Clock + Sync> Crew<'m, RT> {
-    /// The end of a backfill by the workers, which goes on from tries that are kept, and whose events this observer is shown.
+    /// Runs a backfill to its end by the workers, from tries that are kept, and shows its events to an observer. A
+    /// fault where memory is wanting, a thread can't be started, or a try was given up.
     fn resume_observed<'p, K, R, C, O>(
         &self,
         plan: &'p Plan,
@@ -175,7 +178,8 @@ impl<'m, RT: Screen + Threads + Wait + Clock + Sync> Crew<'m, RT> {
         )
     }
 
-    /// The same, beside a thread that tells its progress. Where that can't be started, only the last line is told.
+    /// Runs a backfill to its end by the workers, beside a thread that tells its progress on the screen. Where this
+    /// thread can't be started, only the last line is told.
     fn resume_with_progress<'s, 'p, E, K, R, C>(
         &self,
         scope: &Scope<'s, E>,
@@ -206,8 +210,9 @@ impl<'m, RT: Screen + Threads + Wait + Clock + Sync> Crew<'m, RT> {
         ended
     }
 
-    /// The end of a backfill by the workers, which goes on from tries that are kept. Its progress is told where that is asked
-    /// for, and where it is told without being asked.
+    /// Runs a backfill to its end by the workers, from tries that are kept. Its progress is told on the screen where
+    /// it is asked for, or told unasked. A fault where memory is wanting, a thread can't be started, or a try was
+    /// given up.
     pub(crate) fn resume_by_workers<
         'p,
         K: KeptTries + Sync,

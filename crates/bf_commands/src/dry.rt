@@ -17,9 +17,9 @@ use std::sync::Wait;
 use std::thread::Threads;
 use std::time::Clock;
 
-/// Runs a graph once for each data interval of its schedule that starts in the range, its ends included, with
-/// its tries answered by a table, and writes the report. Says whether every run is a success. The graph's faults go
-/// before the table's, and these before the range's. The text is the same however many workers there are.
+/// Runs a graph once for each data interval that starts in the range, its ends included, answering its tries from a
+/// table, and writes the report; true where every run is a success. The graph's faults go before the table's, and
+/// these before the range's. The text is the same however many workers there are.
 pub fn run_dry<RT: Starter + Screen + Threads + Wait + Clock + Sync, W: Write>(
     crew: &Crew<'_, RT>,
     graph: &[u8],

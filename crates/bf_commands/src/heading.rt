@@ -12,7 +12,8 @@ use bf_plan::{Dag, Plan};
 use bf_value::{OutOfMemory, Text};
 use std::alloc::Global;
 
-/// The task of a place, the start of its run, and its index.
+/// What a journal's head has of a cleared place: its task's id, the start of its run, which `interval` is of, and its
+/// map index.
 fn cleared_task_of(
     alloc: Global,
     dag: &Dag,
@@ -30,7 +31,7 @@ fn cleared_task_of(
     })
 }
 
-/// Adds what is told of a place, where its run is there.
+/// Adds what a journal's head has of a cleared place to `cleared`; nothing where there is no such run.
 fn add_cleared_task(
     alloc: Global,
     dag: &Dag,
@@ -49,7 +50,7 @@ fn add_cleared_task(
     Ok(())
 }
 
-/// What is told of these places, in order.
+/// What a journal's head has of these cleared places, in order; a place whose run isn't there is left out.
 pub(crate) fn cleared_tasks_of(
     alloc: Global,
     plan: &Plan,

@@ -29,7 +29,9 @@ pub struct Journal<D: Cuttable + Drop> {
     pub retry_failed: bool,
 }
 
-/// The tries that are kept of a journal. What was cut short stands there no more, and the head does.
+/// The tries in a journal's bytes. Cuts an unfinished last line off its device, or writes the head where no line is
+/// whole, and tells on the screen what was found. A fault where it is of another backfill, a whole line is no record,
+/// or it can't be written.
 pub(crate) fn read_and_mend_journal<RT: Screen, D: Cuttable + Drop>(
     rt: &RT,
     alloc: Global,

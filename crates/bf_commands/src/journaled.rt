@@ -40,15 +40,16 @@ use std::sync::Wait;
 use std::thread::Threads;
 use std::time::Clock;
 
-/// What came of a backfill that records its tries: whether every run is a success, where its report was written; and the device
-/// of its journal.
+/// What came of a backfill that records its tries: whether every run is a success, where its report was written; and
+/// the device of its journal.
 #[derive(Drop)]
 pub struct Recorded<D: Cuttable + Drop> {
     pub report: Result<bool, CommandFault>,
     pub device: D,
 }
 
-/// What a backfill goes over, what is kept of one before, and what the head of its journal tells of what is cleared.
+/// A backfill: its plan and runs, the tries that are kept of one before, and the tasks that the head of its journal
+/// says are cleared.
 #[derive(Drop)]
 pub(crate) struct Backfill<'a, K> {
     pub(crate) plan: &'a Plan,
@@ -57,7 +58,8 @@ pub(crate) struct Backfill<'a, K> {
     pub(crate) cleared: &'a [ClearedTask],
 }
 
-/// The end of a backfill in which a table answers what isn't kept.
+/// Runs a backfill to its end. Tries in `kept` end as they did; a table answers the others, and each of these is
+/// recorded as it ends.
 fn record_over_table<'p, RT, K, D>(
     crew: &Crew<'_, RT>,
     plan: &'p Plan,
@@ -99,7 +101,8 @@ where
     crew.resume_recorded(plan, runs, &keeping, record, Jump::new(), None)
 }
 
-/// The end of a backfill in which programs answer what isn't kept.
+/// Runs a backfill to its end. Tries in `kept` end as they did; the others are programs, and each is recorded as it
+/// ends. Tells on the screen where logs are incomplete.
 fn record_by_programs<'p, RT, K, D>(
     crew: &Crew<'_, RT>,
     plan: &'p Plan,
@@ -137,7 +140,8 @@ where
     ended
 }
 
-/// The end of a backfill in which a table answers what isn't kept, where there is one, and else the programs of the tasks.
+/// Runs a backfill to its end. Tries in `kept` end as they did; the others are answered by the table, or are programs
+/// where `answers` is None, and each is recorded as it ends.
 fn record_to_end<'p, RT, K, D>(
     crew: &Crew<'_, RT>,
     plan: &'p Plan,
@@ -169,7 +173,8 @@ where
     }
 }
 
-/// Writes the report of a backfill that has ended, and tells where some of its tries aren't recorded.
+/// Writes the report of a backfill that has ended; true where every run is a success. Where `stop` says that a record
+/// failed, tells on the screen that the journal isn't whole.
 fn write_report_and_tell<RT: Screen, W: Write>(
     crew: &Crew<'_, RT>,
     runs: &Runs,
@@ -195,7 +200,8 @@ fn write_report_and_tell<RT: Screen, W: Write>(
     Ok(success)
 }
 
-/// Writes the report of a backfill that goes on from what is kept, and records each other try as it ends.
+/// Runs a backfill to its end and writes its report. Tries in `kept` end as they did; the others are answered by the
+/// table, or are programs where `answers` is None, and each is recorded as it ends.
 fn record_and_write_report<RT, K, D, W>(
     crew: &Crew<'_, RT>,
     plan: &Plan,
@@ -246,8 +252,9 @@ where
     }
 }
 
-/// Writes the report of a backfill that goes on from a journal, and else from what was kept before, and records each other try in
-/// the journal as it ends. A table answers those, where there is one, and else the programs of the tasks.
+/// Runs a backfill that goes on from a journal, and else from what was kept before, and writes its report. The other
+/// tries are answered by the table, or are programs where `answers` is None; each is recorded in the journal as it
+/// ends.
 pub(crate) fn record_backfill<RT, K, D, W>(
     crew: &Crew<'_, RT>,
     backfill: &Backfill<'_, K>,

@@ -20,14 +20,14 @@ ghost use Rattle.bf_commands.specs.Reported.{IsReportBy};
 
 use bf_try::TaskRunner;
 
-/// A graph file, a zone file and a range have one listing.
+/// A graph file, a zone file and a range have at most one listing.
 pub fn listings_are_unique()
     ensures { (graph : List ℕ) (file : Option (List ℕ)) (range : RunRange)
         (xs ys : List Interval)
         → HasListing graph file range (Ok xs) → HasListing graph file range (Ok ys) → xs ≡ ys }
 {}
 
-/// A plan, a table and data intervals have one report, whatever the order in which the tries ran.
+/// A plan, a table and data intervals have at most one report, whatever the order in which the tries ran.
 pub fn reports_are_unique()
     ensures { (dag : Dag) → IsSound dag
         → (table : List TableEntry) (intervals : List Interval) (one two : List ℕ)
@@ -36,8 +36,8 @@ pub fn reports_are_unique()
         → (one ≡ two) × (success ≡ other) }
 {}
 
-/// The bytes of a graph file, of a zone file and of a table, and a range, have one report. So what `dry` prints rests on them
-/// alone, and not on how many workers there are.
+/// The bytes of a graph file, of a zone file and of a table, and a range, have at most one report. So what `dry`
+/// prints rests on them alone, and not on how many workers there are.
 pub fn dry_reports_are_unique()
     ensures { (graph : List ℕ) (file : Option (List ℕ)) (table : List ℕ) (range : RunRange)
         (one two : List ℕ) (success other : Bool)
@@ -46,7 +46,8 @@ pub fn dry_reports_are_unique()
         → (one ≡ two) × (success ≡ other) }
 {}
 
-/// So it is with a moment, and what `single` prints.
+/// The bytes of a graph file, of a zone file and of a table, and a moment, have at most one report. So what `single`
+/// prints rests on them alone.
 pub fn single_reports_are_unique()
     ensures { (graph : List ℕ) (file : Option (List ℕ)) (table : List ℕ) (at : Timestamp)
         (one two : List ℕ) (success other : Bool)
@@ -54,9 +55,10 @@ pub fn single_reports_are_unique()
         → (one ≡ two) × (success ≡ other) }
 {}
 
-/// However often a backfill was broken off that records its tries, at whatever byte of its journal, and gone on with: the report is
-/// one that a backfill from nothing may write, where what was kept before it could have been answered too. (What a command leaves
-/// in its journal is again what crashes leave, and so is each beginning of that.)
+/// A backfill that goes on from what crashes left of its journal writes a report that one from nothing may write;
+/// also where failed tries are made again (`retry`) and where a report's tries are kept (`before`), if the runner
+/// could have answered these. That holds after any number of crashes at any byte: what a command leaves is again such
+/// a journal (`KeepsJournal`), and so is each beginning of it (`what_crashes_leave_may_be_cut`).
 pub fn crashes_change_no_report<R: TaskRunner>(runner: &R)
     ensures { (dag : Dag) (intervals : List Interval) → IsNamed dag → AreOfRuns intervals
         → (cleared : Heading)

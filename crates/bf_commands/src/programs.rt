@@ -20,6 +20,7 @@ pub(crate) struct ScreenTeller<'m, RT> {
 impl<'m, RT: Screen> Teller for ScreenTeller<'m, RT> {
     ghost may_tell = { λ _ _. Unit {0} };
 
+    /// Shows a line on the screen.
     fn tell(&self, line: &str) {
         tell_line(self.rt, self.alloc, line);
     }
@@ -32,7 +33,8 @@ pub(crate) type Programs<'a, RT> = Telling<
     ScreenTeller<'a, RT>,
 >;
 
-/// What runs the tries of these runs of a plan as programs.
+/// The runner that makes the tries of these runs by starting the programs of their tasks, and tells on the screen
+/// those that fail where the crew tells that.
 #[tactic(auto, using(crate::proofs::Shown::anything))]
 pub(crate) fn programs_of<'a, RT: Starter + Screen>(
     crew: &Crew<'a, RT>,
@@ -58,7 +60,7 @@ pub(crate) fn programs_of<'a, RT: Starter + Screen>(
     Telling::new(crew.alloc, plan, runs, crew.launching.logs, runner, teller)
 }
 
-/// Tells where not all of the logs could be kept.
+/// Tells on the screen that some logs couldn't be kept; nothing where all were.
 pub(crate) fn tell_of_logs<RT: Screen>(rt: &RT, faults: &LogFaults) {
     if faults.has_incomplete_log() {
         rt.show("logs: not all could be kept\n");

@@ -15,6 +15,7 @@ pub(crate) struct Noting<'a, 'm, RT> {
 impl<'a, 'm, RT: Screen + Wait + Clock> Observer for Noting<'a, 'm, RT> {
     ghost shows = { λ _ _ _ _. Unit {0} };
 
+    /// Notes an event for the progress that is told.
     fn on_event(&mut self, event: &Event, core: &Core<'_>, running: u32) {
         self.progress.note_event(event, core, running);
     }

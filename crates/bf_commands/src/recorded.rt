@@ -33,8 +33,8 @@ pub(crate) struct Record<D: Durable + Drop> {
     pub(crate) most_failed: Option<u32>,
 }
 
-/// The end of a backfill whose tries were recorded, or why there is none; the device; and why no further try was begun, if that
-/// was so.
+/// The end of a backfill whose tries were recorded, or why there is none; the device; and why no further try was
+/// begun, if that was so.
 #[derive(Drop)]
 pub(crate) struct RecordedEnd<'p, D: Durable + Drop> {
     pub(crate) ended: Result<Ended<'p>, CommandFault>,
@@ -42,7 +42,8 @@ pub(crate) struct RecordedEnd<'p, D: Durable + Drop> {
     pub(crate) stop: Option<Stop>,
 }
 
-/// A runner that records, for a backfill that picks what may be recorded.
+/// A runner that makes tries by `runner` and records them, timing its syncs from now, from zero where the clock
+/// doesn't answer. The type `J` says what may be recorded.
 fn recording_of<'a, J, RT, R, D>(
     rt: &'a RT,
     alloc: Global,
@@ -70,6 +71,8 @@ where
 }
 
 impl<'m, RT: Screen + Threads + Wait + Clock + Sync> Crew<'m, RT> {
+    /// Runs a backfill to its end by the workers, and records each try that isn't kept as it ends. The type `J` says
+    /// what may be recorded. `log_faults` is None where no programs are started.
     fn resume_branded<'p, J, K, R, D, C>(
         &self,
         plan: &'p Plan,
@@ -134,8 +137,9 @@ impl<'m, RT: Screen + Threads + Wait + Clock + Sync> Crew<'m, RT> {
         }
     }
 
-    /// As `resumed`, and each try that the runner makes is recorded as it ends. Where a record can't be written, and behind as
-    /// many failed tries as may be, no further try is begun: those that run are waited for, and recorded if they can be.
+    /// Runs a backfill to its end by the workers, and records each try that isn't kept as it ends. Once a record
+    /// can't be written or too many tries failed, no further one begins, and those that run are waited for.
+    /// `log_faults` is None where no programs are started.
     pub(crate) fn resume_recorded<'p, K, R, D, C>(
         &self,
         plan: &'p Plan,

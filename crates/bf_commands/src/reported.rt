@@ -15,19 +15,21 @@ use bf_report::{RunReport, report_of, write_report};
 use bf_xcom::RunState;
 use std::alloc::Global;
 
+/// Whether a run is a success in its report.
 fn has_succeeded(run: &RunReport) -> bool
     ensures { result ≡ is_success_in run.now.state }
 {
     matches!(run.state, RunState::Success)
 }
 
+/// Whether each of these runs is a success.
 fn all_succeeded(runs: &[RunReport]) -> bool
     ensures { result ≡ list_all (λ run. is_success_in run.state) runs.now }
 {
     runs.iter().all(|run| has_succeeded(run))
 }
 
-/// Writes the report of a backfill over these runs that has ended, and says whether every run of it is a success.
+/// Writes the report of a backfill over these runs that has ended; true where every run is a success.
 pub(crate) fn write_ended<W: Write>(
     alloc: Global,
     runs: &Runs,

@@ -24,9 +24,9 @@ use std::sync::Wait;
 use std::thread::Threads;
 use std::time::Clock;
 
-/// Runs a graph once for each data interval of its schedule that starts in the range, its ends included, with the
-/// programs of its tasks, and writes the report. Says whether every run is a success. The graph's faults go before
-/// the range's; no program is started before both are known to have none.
+/// Runs a graph once for each data interval that starts in the range, its ends included, by its tasks' programs, and
+/// writes the report; true where every run is a success. The graph's faults go before the range's; no program is
+/// started before both are known to have none.
 pub fn run_programs<RT: Starter + Screen + Threads + Wait + Clock + Sync, W: Write>(
     crew: &Crew<'_, RT>,
     graph: &[u8],
@@ -52,8 +52,8 @@ pub fn run_programs<RT: Starter + Screen + Threads + Wait + Clock + Sync, W: Wri
     write_backfill(&crew, &dated.plan, &dated.runs, &NothingKept, None, out)
 }
 
-/// Goes on from a journal with the programs of the tasks, records each other try there as it ends, and writes the report. Says whether
-/// every run is a success.
+/// Goes on from a journal with the programs of the tasks, records each other try in it as it ends, and writes the
+/// report.
 pub fn record_programs<RT, D, W>(
     crew: &Crew<'_, RT>,
     dated: &DatedPlan,

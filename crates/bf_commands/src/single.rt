@@ -22,8 +22,8 @@ use std::sync::Wait;
 use std::thread::Threads;
 use std::time::Clock;
 
-/// Runs a graph once, at this moment of whole seconds, with its tries answered by a table, and writes the report. Says
-/// whether the run is a success. The graph's faults go before the table's, and these before the moment's.
+/// Runs a graph once, at the moment `at` of whole seconds, answering its tries from a table, and writes the report;
+/// true where the run is a success. The graph's faults go before the table's, and these before the moment's.
 pub fn run_single<RT: Starter + Screen + Threads + Wait + Clock + Sync, W: Write>(
     rt: &RT,
     alloc: Global,

@@ -15,7 +15,8 @@ use bf_plan::Plan;
 use bf_value::{JobName, Text};
 use std::alloc::Global;
 
-/// What stopped the calling thread, where a table answers its tries: memory is wanting, and no try is given up.
+/// The fault of a backfill that stopped in the calling thread, over a table: memory is wanting. No try is given up
+/// over a table, and no thread started.
 pub(crate) fn stop_fault_alone(fault: &BackfillFault) -> CommandFault
     requires { MayFault (λ name given. ⊥) fault.now }
     ensures { result ≡ CommandFault.OutOfMemory }
@@ -26,7 +27,8 @@ pub(crate) fn stop_fault_alone(fault: &BackfillFault) -> CommandFault
     }
 }
 
-/// What stopped workers whose tries a table answers: none is given up.
+/// The fault of a backfill of workers that stopped over a table: memory is wanting or a thread can't be started. No
+/// try is given up over a table.
 pub(crate) fn stop_fault_over_table(fault: &BackfillFault) -> CommandFault
     requires { MayFail (λ name given. ⊥) fault.now }
     ensures wanting { IsWantingWorkers false result }
@@ -50,7 +52,8 @@ pub(crate) struct StoppedBackfill<'a> {
 }
 
 impl<'a> StoppedBackfill<'a> {
-    /// The fault of a try whose logs can't be made. There is none of a try of no task or of no run, or without a folder of logs.
+    /// The fault of a try whose logs can't be made, with the path of the first. None where there is no such task or
+    /// run, or no folder of logs.
     fn unlogged_fault(&self, name: JobName) -> Option<CommandFault>
         ensures told { IfSome result (IsGivenUp (option_map (λ l. l.now) self.now.logs)
             self.now.plan.now.dag self.now.runs.now name) }
@@ -66,7 +69,7 @@ impl<'a> StoppedBackfill<'a> {
         }
     }
 
-    /// The fault of a try whose program can't be waited for.
+    /// The fault of a try whose program can't be waited for, with its task's id, map index and number.
     fn lost_fault(&self, name: JobName) -> CommandFault
         ensures told { IsGivenUp (option_map (λ l. l.now) self.now.logs) self.now.plan.now.dag
             self.now.runs.now name result }
@@ -82,7 +85,8 @@ impl<'a> StoppedBackfill<'a> {
         }
     }
 
-    /// The fault of a try that was given up.
+    /// The fault of a try that its runner gave up: its logs can't be made where some log couldn't, else its program
+    /// can't be waited for.
     fn given_up_fault(&self, name: JobName) -> CommandFault
         ensures told { IsGivenUp (option_map (λ l. l.now) self.now.logs) self.now.plan.now.dag
             self.now.runs.now name result }
@@ -98,7 +102,8 @@ impl<'a> StoppedBackfill<'a> {
     }
 }
 
-/// What stopped a backfill with the programs of the tasks.
+/// The fault of a backfill with the programs of the tasks that stopped: memory is wanting, a thread can't be started,
+/// or a try was given up.
 pub(crate) fn stop_fault_by_programs(
     stopping: &StoppedBackfill<'_>,
     fault: &BackfillFault,
@@ -114,7 +119,8 @@ pub(crate) fn stop_fault_by_programs(
     }
 }
 
-/// Why a try was given up whose end was to be recorded: no further one was begun, or the runner gave it up.
+/// Why a try was given up whose end was to be recorded: `stop` says why no further one begins, or the runner gave it
+/// up where it is None. `most_failed` is how many tries may fail, None for any number.
 fn stop_fault_at_try(
     stopping: &StoppedBackfill<'_>,
     name: JobName,
@@ -135,7 +141,8 @@ fn stop_fault_at_try(
     }
 }
 
-/// What stopped a backfill whose tries were recorded, and of which so many may fail.
+/// The fault of a backfill that stopped and whose tries were recorded. `stop` says why no further try begins, None
+/// where none should have; `most_failed` is how many tries may fail, None for any number.
 pub(crate) fn stop_fault_of_recording(
     stopping: &StoppedBackfill<'_>,
     fault: &BackfillFault,

@@ -4,20 +4,21 @@ use bf_journal::Found;
 use bf_progress::Screen;
 use std::alloc::{AllocError, Global};
 
-/// How many whole lines stand behind the head.
+/// How many whole lines are behind the first, the head; 0 where there is no line. Contracts say nothing of it.
 fn lines_behind_head(held: &[u8]) -> usize {
     let lines = held.iter().filter(|byte| **byte == b'\n').count();
     lines.saturating_sub(1)
 }
 
-/// Shows a line. Where memory was wanting for it, nothing is shown.
+/// Shows a line on the screen; nothing where it is an error, for want of memory.
 fn show_line<RT: Screen>(rt: &RT, line: Result<String, AllocError>) {
     if let Ok(line) = line {
         rt.show(line.as_str());
     }
 }
 
-/// Tells what was found of a journal that holds these bytes.
+/// Tells on the screen how many bytes of a cut record are dropped, and behind how many tries the journal goes on;
+/// nothing where it was empty. `held` are the bytes of the journal.
 pub(crate) fn tell_found<RT: Screen>(rt: &RT, alloc: Global, held: &[u8], found: &Found) {
     let torn = found.torn;
     if torn > 0 {
@@ -35,7 +36,7 @@ pub(crate) fn tell_found<RT: Screen>(rt: &RT, alloc: Global, held: &[u8], found:
     }
 }
 
-/// Tells that tries aren't recorded of which a report tells.
+/// Tells on the screen that the report is whole and the journal isn't.
 pub(crate) fn tell_unrecorded<RT: Screen>(rt: &RT) {
     rt.show("journal: the report is whole, the journal isn't\n");
 }

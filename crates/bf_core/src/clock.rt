@@ -43,14 +43,14 @@ impl Moments {
         }
     }
 
-    /// The moment for which a try waits.
+    /// The moment for which a try waits, in seconds since 1970, if it waits for one.
     pub(crate) fn get(&self, name: JobName) -> Option<&i64>
         ensures { option_copied result ≡ FinMap.get self.now name }
     {
         self.entries.get(&name)
     }
 
-    /// Lets a try wait for a moment.
+    /// Notes the moment, in seconds since 1970, for which a try waits. Where memory is wanting, nothing changes.
     pub(crate) fn note(&mut self, name: JobName, moment: i64) -> Result<(), OutOfMemory>
         ensures ok { OnOk result (self.new ≡ FinMap.insert self.old name moment) }
         ensures same { OnErr result (self.new ≡ self.old) }
@@ -59,7 +59,7 @@ impl Moments {
         Ok(())
     }
 
-    /// Lets a try wait for no moment.
+    /// Forgets the moment for which a try waits, if it waits for one.
     pub(crate) fn forget(&mut self, name: JobName)
         ensures { self.new ≡ FinMap.remove self.old name }
     {
@@ -75,14 +75,14 @@ pub struct Clock {
 }
 
 impl Clock {
-    /// Whether the clock may come to a moment: a later one, and none past the last.
+    /// Whether the clock may come to a moment: one later than it shows, and at most `LAST_MOMENT`.
     pub(crate) fn may_come_to(&self, moment: i64) -> bool
         ensures { IsTrue result ↔ IsTimely self.now (Event.Tick moment) }
     {
         self.time < moment && moment <= LAST_MOMENT
     }
 
-    /// Whether the moment of a try has come, where it has one.
+    /// Whether a try may begin as far as the clock goes: the moment for which it waits has come, or it has none.
     pub(crate) fn lets_begin(&self, name: JobName) -> bool
         ensures { IsTrue result ↔ IsTimely self.now (Event.Begin name) }
     {
@@ -92,7 +92,8 @@ impl Clock {
         }
     }
 
-    /// The moment for which a try waits, where that is later than what the clock shows.
+    /// The moment for which a try waits, where that is later than what the clock shows; None where it has come, or
+    /// the try waits for none.
     pub(crate) fn later_moment_of(&self, name: JobName) -> Option<i64>
         ensures moment { IfSome result (λ m. FinMap.get self.now.moments name ≡ Some m) }
         ensures later { IfSome result (λ m. self.now.time <ℤ m) }
@@ -104,7 +105,7 @@ impl Clock {
         }
     }
 
-    /// The moment that comes so many seconds later, and none past the last.
+    /// The moment `delay` seconds after the one that the clock shows, at most `LAST_MOMENT`.
     fn moment_after(&self, delay: u32) -> i64
         requires begun { pos 0 ≤ℤ self.now.time }
         requires within { self.now.time ≤ℤ last_moment }
@@ -113,13 +114,15 @@ impl Clock {
         (self.time + i64::from(delay)).min(LAST_MOMENT)
     }
 
+    /// Whether a moment, in seconds since 1970, is later than what the clock shows.
     fn is_later(&self, moment: i64) -> bool
         ensures { result ≡ int_lt self.now.time moment }
     {
         self.time < moment
     }
 
-    /// Lets the next try wait as long as is asked, where it is made and its moment is a later one.
+    /// Notes until when `retry`, the next try of one that ends, waits, if it is made and that is later than the clock
+    /// shows. Where memory is wanting, nothing changes.
     fn delay_retry(&mut self, retry: Retry) -> Result<(), OutOfMemory>
         requires begun { pos 0 ≤ℤ self.old.time }
         requires within { self.old.time ≤ℤ last_moment }
@@ -144,8 +147,8 @@ pub(crate) struct Retry {
     pub(crate) delay: u32,
 }
 
-/// Notes a try that has ended in the ledger, and the moment of its next try in the clock; or nothing where memory is
-/// wanting.
+/// Notes the try `name`, which has ended, in the ledger, and in the clock until when its next one, `retry`, waits, if
+/// that is made. Where memory is wanting, nothing changes.
 pub(crate) fn note_end(
     clock: &mut Clock,
     ledger: &mut Ledger,

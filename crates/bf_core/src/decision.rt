@@ -30,6 +30,7 @@ pub enum Decision {
     Instances(Sequence<Given>),
 }
 
+/// Instances that wait for their first try, one for each given.
 fn fresh_instances(
     alloc: Global,
     givens: Sequence<Given>,
@@ -48,13 +49,15 @@ fn fresh_instances(
 }
 
 impl Decision {
+    /// Whether nothing can be decided of the task yet.
     pub(crate) fn waits(&self) -> bool
         ensures { IsTrue result ↔ (self.now ≡ Decision.Wait) }
     {
         matches!(self, Decision::Wait)
     }
 
-    /// The cell of a task of which this is decided: its instances wait for their first try.
+    /// The cell of a task by this decision, undecided for `Wait`. Its instances, if it gets some, wait for their
+    /// first try.
     pub(crate) fn into_cell(self, alloc: Global) -> Result<Cell, OutOfMemory>
         ensures { IfOk result (λ c. c ≡ cell_of self) }
     {
@@ -68,7 +71,8 @@ impl Decision {
     }
 }
 
-/// Refuses a task that is not undecided in an open run.
+/// Refuses a task that may not be decided: `Stranger` where the run or the task isn't there, `NotEnabled` where the
+/// run isn't open or the task is decided.
 pub(crate) fn refuse_unless_undecided(
     dag: &Dag,
     state: &State,
@@ -90,7 +94,7 @@ pub(crate) fn refuse_unless_undecided(
     Ok(())
 }
 
-/// Whether a task is undecided in an open run.
+/// Whether a task is undecided in an open run; false where the run or the task isn't there.
 pub(crate) fn is_undecided(dag: &Dag, state: &State, run: u32, task: u32) -> bool
     requires { HasRows dag.now state.now }
     ensures { IsTrue result ↔ (IsThere dag.now state.now run task
@@ -102,8 +106,8 @@ pub(crate) fn is_undecided(dag: &Dag, state: &State, run: u32, task: u32) -> boo
     }
 }
 
-/// What the upstreams and the past say of a task.
-#[tactic(auto, unfolding(crate::specs::Deciding::gate))]
+/// The verdict on a task in a run now, by its upstreams; where that is to run, by its past (`depends_on_past`).
+#[tactic(auto, unfolding(crate::specs::Deciding::task_verdict_of))]
 pub(crate) fn task_verdict(plan: &Plan, state: &State, run: u32, task: u32) -> Verdict
     requires task { task < length plan.now.dag.tasks }
     requires few { AreFew state.now }
@@ -115,7 +119,7 @@ pub(crate) fn task_verdict(plan: &Plan, state: &State, run: u32, task: u32) -> V
     verdict_with_past(state, run, task, depends_on_past, verdict)
 }
 
-/// Whether a task goes on to its expansion by this verdict.
+/// Whether a task is decided by its expansion: it is expanded over a source, and the verdict is to run.
 pub(crate) fn goes_on_to_expansion(dag: &Dag, task: u32, verdict: Verdict) -> bool
     requires { task < length dag.now.tasks }
     ensures { result ≡ (is_some (task_of dag.now task).expand && is_run verdict) }
@@ -123,7 +127,8 @@ pub(crate) fn goes_on_to_expansion(dag: &Dag, task: u32, verdict: Verdict) -> bo
     dag.task(task).expand.is_some() && verdict == Verdict::Run
 }
 
-/// Whether what is decided of a task by this verdict is to wait.
+/// Whether a task stays undecided by this verdict: it is to wait, or to run while its expansion's source isn't
+/// settled.
 pub(crate) fn decides_to_wait(
     dag: &Dag,
     state: &State,
@@ -145,7 +150,9 @@ pub(crate) fn decides_to_wait(
     }
 }
 
-/// What is decided of a task by this verdict of upstreams and past.
+/// What is decided of a task by `verdict`, which its upstreams and its past give. Where that is to run, it gets its
+/// instances; an expanded one waits while its source isn't settled, and without items it is upstream_failed or
+/// skipped.
 pub(crate) fn decision_after_verdict(
     alloc: Global,
     dag: &Dag,

@@ -112,6 +112,7 @@ fn is_leaf(plan: &Plan, task: u32) -> bool
     plan.graph().downstreams(task).is_empty()
 }
 
+/// Whether an instance is finished and has failed.
 fn has_failed(instance: &Instance) -> bool
     ensures { result ≡ is_failed_instance instance.now }
 {
@@ -121,13 +122,15 @@ fn has_failed(instance: &Instance) -> bool
     }
 }
 
+/// Whether one of a task's instances has failed.
 fn any_failed(instances: &[Instance]) -> bool
     ensures { result ≡ list_any (λ x. is_failed_instance x) instances.now }
 {
     instances.iter().any(|instance| has_failed(instance))
 }
 
-/// Whether a task in a closed run fails that run.
+/// Whether a task with this cell fails its run, taken as closed: it is blocked or not settled, or it is a leaf and
+/// failed or is upstream_failed.
 #[tactic(auto, using(crate::proofs::Closing::ran_fails))]
 fn fails_its_run(plan: &Plan, task: u32, cell: &Cell) -> bool
     requires { task < length plan.now.dag.tasks }
@@ -142,6 +145,7 @@ fn fails_its_run(plan: &Plan, task: u32, cell: &Cell) -> bool
     }
 }
 
+/// Whether the instances of a task make its run fail: one isn't finished, or one failed and the task is a leaf.
 fn instances_fail_run(plan: &Plan, task: u32, instances: &[Instance]) -> bool
     requires { task < length plan.now.dag.tasks }
     ensures { result ≡ instances_fail (is_leaf_in plan.now.dag task) instances.now }
@@ -149,6 +153,8 @@ fn instances_fail_run(plan: &Plan, task: u32, instances: &[Instance]) -> bool
     !are_finished(instances) || (any_failed(instances) && is_leaf(plan, task))
 }
 
+/// Whether a run, taken as closed, is failed: a task of it, by its cell in `cells`, is blocked or not settled, or is
+/// a leaf that failed or is upstream_failed.
 fn run_fails(plan: &Plan, cells: &[Cell]) -> bool
     requires few { length plan.now.dag.tasks ≤ 2_000 }
     requires one_each { length cells.now ≡ length plan.now.dag.tasks }
@@ -163,7 +169,8 @@ fn run_fails(plan: &Plan, cells: &[Cell]) -> bool
     false
 }
 
-/// The state of a closed run.
+/// The state of a run, taken as closed, by the cell of each task in file order: failed where `run_fails`, else
+/// success.
 fn run_state(plan: &Plan, cells: &[Cell]) -> RunState
     requires few { length plan.now.dag.tasks ≤ 2_000 }
     requires one_each { length cells.now ≡ length plan.now.dag.tasks }
@@ -177,13 +184,14 @@ fn run_state(plan: &Plan, cells: &[Cell]) -> RunState
     }
 }
 
+/// Whether all runs are closed.
 fn are_closed(runs: &[Run]) -> bool
     ensures { result ≡ list_all (λ r. is_closed r.phase) runs.now }
 {
     runs.iter().all(|run| run.phase.is_closed())
 }
 
-/// Writes the state of each run into its place.
+/// Writes the state of each run, taken as closed, into its place of `states`, which has one place for each run.
 fn write_states(plan: &Plan, runs: &[Run], states: &mut Vec<RunState>)
     requires few { length plan.now.dag.tasks ≤ 2_000 }
     requires rows { (k : ℕ) → k < length runs.now → length (row_of runs.now k).cells

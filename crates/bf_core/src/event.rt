@@ -27,7 +27,7 @@ pub enum Event {
 }
 
 impl Event {
-    /// The event that a task is decided: by its expansion, or without.
+    /// The event that decides a task in a run: by its expansion where `expands`, and else without one.
     pub(crate) fn deciding(expands: bool, run: u32, task: u32) -> Event
         ensures { result ≡ deciding expands run task }
     {
@@ -38,7 +38,7 @@ impl Event {
         }
     }
 
-    /// An equal one.
+    /// A copy of the event.
     pub fn copy(&self, alloc: Global) -> Result<Event, OutOfMemory>
         ensures { IfOk result (λ event. event ≡ self.now) }
     {

@@ -15,7 +15,7 @@ use bf_value::{OutOfMemory, Sequence, Xval};
 use bf_xcom::{Given, Pulled};
 use std::alloc::Global;
 
-/// What each instance pushed, or nothing, by map index.
+/// What each instance pushed, by map index; None for one that isn't finished or pushed nothing.
 fn pushed_by_each(alloc: Global, instances: &[Instance]) -> Result<Vec<Option<Xval>>, OutOfMemory>
     ensures { IfOk result (λ values. values.items ≡ map pushed_by_one instances.now) }
 {
@@ -26,7 +26,8 @@ fn pushed_by_each(alloc: Global, instances: &[Instance]) -> Result<Vec<Option<Xv
     Ok(values)
 }
 
-/// What a source has for an expansion by its instances, where all have finished.
+/// What a source with these instances has for an expansion: what its only one pushed, or where `source` is expanded
+/// what each pushed. None while one hasn't finished.
 fn values_of_instances(
     alloc: Global,
     source: &Task,
@@ -46,7 +47,8 @@ fn values_of_instances(
 }
 
 impl Cell {
-    /// What a source that has this cell has for an expansion; nothing is known of one that is not settled.
+    /// What the task `source` with this cell has for an expansion, `Absent` where it didn't run. None where the cell
+    /// isn't settled.
     #[tactic(auto, using(crate::proofs::Expanded::ran_source))]
     fn source_values(
         &self,
@@ -63,7 +65,8 @@ impl Cell {
         }
     }
 
-    /// The items that a source that has this cell gives; nothing is known of one that is not settled.
+    /// The items that the task `source` with this cell gives, `Missing` where it has no list. None where the cell
+    /// isn't settled.
     fn items(&self, alloc: Global, source: &Task) -> Result<Option<Items>, OutOfMemory>
         ensures { IfOk result (λ found. found
             ≡ option_map (given_by source.now) (value_in self.now)) }
@@ -75,7 +78,8 @@ impl Cell {
     }
 }
 
-/// The items that a source gives in a run; nothing is known of one that is not settled.
+/// The items that the task `source` gives in a run, `Missing` where it has no list. None where it isn't settled, or
+/// isn't there.
 fn items_from(
     alloc: Global,
     dag: &Dag,
@@ -94,7 +98,7 @@ fn items_from(
     }
 }
 
-/// One instance, which is given what was pulled.
+/// The one instance of an unmapped task, which is given what was pulled and no item.
 fn single_instance(alloc: Global, pulled: Vec<Pulled>) -> Result<Decision, OutOfMemory>
     ensures { IfOk result (λ d. d ≡ Decision.Instances
         (record { item = None; pulled = pulled.items } ∷ [])) }
@@ -107,7 +111,7 @@ fn single_instance(alloc: Global, pulled: Vec<Pulled>) -> Result<Decision, OutOf
     Ok(Decision::Instances(Sequence::from_vec(givens)))
 }
 
-/// What the instance of an item is given: the item, and what all are given alike.
+/// What an instance is given: this item, and the pulls of `alike`, which all instances of the task are given.
 fn given_with(alloc: Global, item: Xval, alike: &Given) -> Result<Given, OutOfMemory>
     ensures { IfOk result (λ given. given
         ≡ record { item = Some item; pulled = alike.now.pulled }) }
@@ -117,7 +121,7 @@ fn given_with(alloc: Global, item: Xval, alike: &Given) -> Result<Given, OutOfMe
     Ok(given)
 }
 
-/// An instance for each item, which is given the item and what was pulled.
+/// What each instance is given, by map index: its item, and `pulled`, which all of them are given alike.
 fn givens_of(
     alloc: Global,
     items: Sequence<Xval>,
@@ -137,7 +141,8 @@ fn givens_of(
     Ok(Sequence::from_vec(givens))
 }
 
-/// What the items of a source make of a task that goes on.
+/// What is decided of an expanded task that is to run, by the items of its source: upstream_failed where they are
+/// missing, skipped where the list is empty, else an instance for each, which is given `pulled` too.
 fn instances_of_items(
     alloc: Global,
     items: Items,
@@ -156,8 +161,9 @@ fn instances_of_items(
     }
 }
 
-/// The instances of a task that goes on: of one that is expanded one for each item, and it waits while its source is
-/// not settled; of any other a single one.
+/// What is decided of a task that is to run: a single instance, or of an expanded one an instance for each item. That
+/// one waits while its source isn't settled, is upstream_failed where this gives no list, and skipped where the list
+/// is empty.
 pub(crate) fn decide_instances(
     alloc: Global,
     dag: &Dag,

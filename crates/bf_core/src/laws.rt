@@ -8,7 +8,7 @@ ghost use Rattle.bf_core.specs.Recursion.{decided, out, value_of, SolvesRecursio
 ghost use Rattle.bf_core.specs.Events.{WithinPools, IsLegal, replay, start, entry_in, HasEnded};
 ghost use Rattle.bf_core.specs.Agreement.{Holds, Agrees, IsOutcome};
 
-/// Every state that a legal list of events leads to agrees with every ledger that holds its entries.
+/// A law: every state that a legal list of events leads to agrees with every ledger that holds its entries.
 pub fn legal_lists_agree()
     ensures { (dag : Dag) → IsSound dag → (limits : Limits) (runs : ℕ) (events : List Event)
         → IsLegal dag limits (start dag runs) events →
@@ -39,7 +39,7 @@ pub fn alike_ledgers_end_alike()
         replay dag (start dag runs) events ≡ replay dag (start dag runs) others }
 {}
 
-/// In every state that a legal list of events leads to, no pool has more slots occupied than it has.
+/// A law: in every state that a legal list of events leads to, no pool has more slots occupied than it has.
 pub fn legal_lists_keep_pools()
     ensures { (dag : Dag) (limits : Limits) (runs : ℕ) (events : List Event)
         → IsLegal dag limits (start dag runs) events →
@@ -60,7 +60,7 @@ pub fn the_first_run_has_no_past()
         decision dag 0 seen past task ≡ decision dag 0 seen other task }
 {}
 
-/// The recursion's values solve its equation, and no others do.
+/// A law: the recursion's values solve its equation, and no others do.
 pub fn the_recursion_has_one_solution()
     ensures solves { (dag : Dag) → IsSound dag → (ledger : Ledger) →
         SolvesRecursion dag ledger (out dag ledger) }

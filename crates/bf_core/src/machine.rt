@@ -137,7 +137,7 @@ impl<'a> Core<'a> {
         }
     }
 
-    /// The run that may be opened: the next one, unless as many are open as may be.
+    /// The run that may be opened, the next one; None where none is left, or as many are open as may be.
     pub(crate) fn next_to_open(&self) -> Option<u32>
         ensures some { IfSome result (λ k. (k ≡ next_run self.now.state)
             × MayCome self.now Event.Open) }
@@ -150,7 +150,7 @@ impl<'a> Core<'a> {
         }
     }
 
-    /// Opens the next run.
+    /// Opens the next run; refused where none is left, or as many are open as may be.
     fn open(&mut self) -> Result<(), Illegal>
         ensures ok { OnOk result (HasCome self.old Event.Open self.new) }
         ensures err { IfErr result (IsRefusal self.old Event.Open) }
@@ -167,7 +167,8 @@ impl<'a> Core<'a> {
         Ok(())
     }
 
-    /// What is decided of a task now, which goes on to its expansion or does not, as is asked.
+    /// What is decided of a task now, by its expansion where `expands`, else without one. Refused where the task
+    /// can't be decided so now, or isn't there.
     fn decision_now(&self, run: u32, task: u32, expands: bool) -> Result<Decision, Illegal>
         ensures ok { IfOk result (λ d. MayCome self.now (deciding expands run task)
             × (d ≡ decision_in self.now.dag self.now.state run task)) }
@@ -186,7 +187,8 @@ impl<'a> Core<'a> {
         Ok(decision)
     }
 
-    /// Decides a task: by its expansion, or without.
+    /// Decides a task in a run, by its expansion where `expands`, else without one. Refused where the task can't be
+    /// decided so now, or isn't there.
     fn decide(&mut self, run: u32, task: u32, expands: bool) -> Result<(), Illegal>
         ensures ok { OnOk result (HasCome self.old (deciding expands run task) self.new) }
         ensures err { IfErr result (IsRefusal self.old (deciding expands run task)) }
@@ -201,7 +203,7 @@ impl<'a> Core<'a> {
         Ok(())
     }
 
-    /// What a try would take, refused where it does not wait, or waits for a later moment.
+    /// The slots that a try takes once it begins; refused where it doesn't wait, or waits for a later moment.
     fn waiting_demand(&self, name: JobName) -> Result<Demand, Illegal>
         ensures ok { IfOk result (IsBeginning self.now name) }
         ensures err { IfErr result (IsRefusal self.now (Event.Begin name)) }
@@ -213,7 +215,7 @@ impl<'a> Core<'a> {
         Ok(self.plan.demand(name.task))
     }
 
-    /// Begins a try, which takes its task's slots.
+    /// Begins a try that waits: it takes its task's slots. Refused where it may not begin, or they have no room.
     fn begin(&mut self, name: JobName) -> Result<(), Illegal>
         ensures ok { OnOk result (HasCome self.old (Event.Begin name) self.new) }
         ensures err { IfErr result (IsRefusal self.old (Event.Begin name)) }
@@ -234,7 +236,8 @@ impl<'a> Core<'a> {
         }
     }
 
-    /// The next try of a try that runs and ends so.
+    /// The try behind a running one that ends with `outcome`: its name, whether it is made, and after how many
+    /// seconds.
     fn retry_of(&self, name: JobName, outcome: &Outcome) -> Retry
         requires { IsPresent self.now.dag self.now.state name Phase.Running }
         ensures { IsRetry self.now name outcome.now result }
@@ -247,7 +250,8 @@ impl<'a> Core<'a> {
         }
     }
 
-    /// What the end of a try notes, keeps and gives back; refused where the try does not run or could not end so.
+    /// What the end of a try takes: its ledger entry, the outcome that its instance keeps, the slots that are given
+    /// back and its next try. Refused where the try doesn't run, or could not end with this outcome.
     fn prepare_end(&self, name: JobName, outcome: &Outcome) -> Result<Ending, Illegal>
         ensures ok { IfOk result (IsEnding self.now name outcome.now) }
         ensures err { IfErr result (IsRefusal self.now (Event.End name outcome.now)) }
@@ -272,7 +276,8 @@ impl<'a> Core<'a> {
         })
     }
 
-    /// Ends a try: its slots are given back, and the ledger gets its entry.
+    /// Ends a try: its slots are given back, and the ledger gets its entry. Refused where it doesn't run, or could
+    /// not end so.
     fn end(&mut self, name: JobName, outcome: Outcome) -> Result<(), Illegal>
         ensures ok { OnOk result (HasCome self.old (Event.End name outcome) self.new) }
         ensures err { IfErr result (IsRefusal self.old (Event.End name outcome)) }
@@ -299,7 +304,7 @@ impl<'a> Core<'a> {
         Ok(())
     }
 
-    /// Closes a run.
+    /// Closes a run; refused where it isn't open or has an unsettled task.
     fn close(&mut self, run: u32) -> Result<(), Illegal>
         ensures ok { OnOk result (HasCome self.old (Event.Close run) self.new) }
         ensures err { IfErr result (IsRefusal self.old (Event.Close run)) }
@@ -313,7 +318,7 @@ impl<'a> Core<'a> {
         Ok(())
     }
 
-    /// Lets the clock come to a later moment.
+    /// Moves the clock to a moment, in seconds since 1970; refused where that isn't later, or is past `LAST_MOMENT`.
     fn tick(&mut self, moment: i64) -> Result<(), Illegal>
         ensures ok { OnOk result (HasCome self.old (Event.Tick moment) self.new) }
         ensures err { IfErr result (IsRefusal self.old (Event.Tick moment)) }
@@ -356,7 +361,7 @@ fn entry_and_kept_outcome(
     Ok((entry, outcome.copy(alloc)?))
 }
 
-/// Refuses a run that is not open, and one with a task that is not settled.
+/// Refuses to close a run: `Stranger` where it isn't there, `NotEnabled` where it isn't open or a task isn't settled.
 fn refuse_unless_closable(dag: &Dag, state: &State, run: u32) -> Result<(), Illegal>
     requires { HasRows dag.now state.now }
     ensures ok { OnOk result ((run < length state.now.runs)

@@ -12,6 +12,7 @@ use crate::state::{Cell, Instance, Phase, State};
 use bf_plan::Dag;
 use bf_value::JobName;
 
+/// Whether a task is expanded over another; false where there is no such task.
 #[tactic(auto, unfolding(bf_plan::specs::Plans::task_of))]
 fn is_expanded(dag: &Dag, task: u32) -> bool
     ensures { result ≡ is_some (task_of dag.now task).expand }
@@ -22,7 +23,8 @@ fn is_expanded(dag: &Dag, task: u32) -> bool
     }
 }
 
-/// The name of a try: of the instance at a place among those of its task.
+/// The name of try `attempt`, from 1, of the instance at `place`, from 0, of a task in a run. Its map index is
+/// `place`, or -1 where the task isn't expanded or isn't there.
 #[tactic(auto, unfolding(bf_try::specs::Tries::name_of))]
 pub fn name_of(dag: &Dag, run: u32, task: u32, place: usize, attempt: u32) -> JobName
     requires { place ≤ 1_024 }
@@ -41,7 +43,8 @@ pub fn name_of(dag: &Dag, run: u32, task: u32, place: usize, attempt: u32) -> Jo
     }
 }
 
-/// The place of a name's instance among those of its task.
+/// The place, from 0, of a name's instance among those of its task: the map index without its sign; 0 where the task
+/// isn't expanded or isn't there.
 pub fn place_of(dag: &Dag, name: JobName) -> u32
     ensures { result ≡ place_in dag.now name }
 {
@@ -52,8 +55,8 @@ pub fn place_of(dag: &Dag, name: JobName) -> u32
     }
 }
 
-/// Whether its task may have an instance of the map index of a name: an unmapped task only -1, an expanded one none
-/// below 0.
+/// Whether the task of a name may have an instance of the name's map index: an unmapped task only -1, an expanded one
+/// none below 0.
 fn has_index_of_task(dag: &Dag, name: JobName) -> bool
     ensures { IsTrue result ↔ (map_index (task_of dag.now name.task) (place_in dag.now name)
         ≡ name.index) }
@@ -65,7 +68,7 @@ fn has_index_of_task(dag: &Dag, name: JobName) -> bool
     }
 }
 
-/// The name of the next try of an instance.
+/// The name of the instance's next try, after the one of this name.
 pub(crate) fn next_try(name: JobName) -> JobName
     requires { name.attempt + 1 < 2 ^ 32 }
     ensures { result ≡ next_try_of name }
@@ -76,7 +79,7 @@ pub(crate) fn next_try(name: JobName) -> JobName
     }
 }
 
-/// The instance at a place of a task in a run.
+/// The instance at `place`, from 0, of a task in a run; None where there is none, or none yet.
 pub(crate) fn instance_at(state: &State, run: u32, task: u32, place: usize) -> Option<&Instance>
     ensures { option_copied result ≡ instance_of (cell_at state.now run task) place }
 {
@@ -86,7 +89,7 @@ pub(crate) fn instance_at(state: &State, run: u32, task: u32, place: usize) -> O
     }
 }
 
-/// The instance of a name, where the task has one of that index now.
+/// The instance of a name, whichever of its tries is named; None where the task has none of that map index now.
 fn instance_named<'a>(dag: &Dag, state: &'a State, name: JobName) -> Option<&'a Instance>
     ensures some { IfSome result (λ x. IsOfName dag.now state.entry.now name x.now) }
     ensures none { IfNone result ((x : Instance) → IsOfName dag.now state.entry.now name x
@@ -100,7 +103,7 @@ fn instance_named<'a>(dag: &Dag, state: &'a State, name: JobName) -> Option<&'a 
     }
 }
 
-/// The instance of a name, where it has come to that try.
+/// The instance of a try's name, where that is its present try or an earlier one; None for any other name.
 fn instance_known_as<'a>(dag: &Dag, state: &'a State, name: JobName) -> Option<&'a Instance>
     ensures some { IfSome result (λ x. IsKnownAs dag.now state.entry.now name x.now) }
     ensures none { IfNone result ((x : Instance) → IsKnownAs dag.now state.entry.now name x
@@ -121,6 +124,7 @@ pub(crate) enum Unfinished {
     Running,
 }
 
+/// Whether the present try of an instance has the number `attempt`, and waits or runs, whichever is `asked`.
 fn is_as_asked(instance: &Instance, attempt: u32, asked: Unfinished) -> bool
     ensures { IsTrue result ↔ ((instance.now.attempt ≡ attempt)
         × (instance.now.phase ≡ asked_phase asked)) }
@@ -132,7 +136,7 @@ fn is_as_asked(instance: &Instance, attempt: u32, asked: Unfinished) -> bool
     instance.attempt == attempt && is_in_phase
 }
 
-/// The instance of a try that waits or runs, as is asked.
+/// The instance of a try that waits or runs, whichever is `asked`; None where the try isn't so.
 pub(crate) fn unfinished_instance<'a>(
     dag: &Dag,
     state: &'a State,
@@ -152,7 +156,8 @@ pub(crate) fn unfinished_instance<'a>(
     }
 }
 
-/// The instance of a try, which is refused where it doesn't wait or run, as is asked.
+/// The instance of a try that waits or runs, whichever is `asked`. `Stranger` where the try isn't the present one of
+/// its instance or an earlier one, else `NotEnabled` where it isn't so.
 pub(crate) fn require_unfinished_instance<'a>(
     dag: &Dag,
     state: &'a State,

@@ -11,7 +11,7 @@ use bf_rule::Verdict;
 use bf_try::Outcome;
 
 impl Phase {
-    /// Finished, and not as failed.
+    /// Whether the instance is finished and didn't fail.
     fn has_passed(&self) -> bool
         ensures { result ≡ passed self.now }
     {
@@ -22,12 +22,15 @@ impl Phase {
     }
 }
 
+/// Whether each instance is finished and didn't fail, so that the next run may go on (`depends_on_past`).
 fn have_passed(instances: &[Instance]) -> bool
     ensures { result ≡ list_all (λ x. passed x.phase) instances.now }
 {
     instances.iter().all(|instance| instance.phase.has_passed())
 }
 
+/// The verdict on a task that depends on its past, by its instances in the run before: to wait while one hasn't
+/// finished, to run where none failed, else blocked.
 fn past_verdict_of_instances(instances: &[Instance]) -> Verdict
     ensures { result ≡ ran_ruling instances.now }
 {
@@ -41,7 +44,8 @@ fn past_verdict_of_instances(instances: &[Instance]) -> Verdict
 }
 
 impl Cell {
-    /// What this says, as a previous run's, of a task that depends on its past.
+    /// The verdict on a task that depends on its past, by its cell in the run before: to wait while that isn't
+    /// settled, to run where the task was skipped or ran without a failure, else blocked.
     #[tactic(auto, using(crate::proofs::Sums::past_ran))]
     fn past_verdict(&self) -> Verdict
         ensures { result ≡ past_ruling (value_in self.now) }
@@ -55,7 +59,8 @@ impl Cell {
     }
 }
 
-/// What the previous run says of a task that depends on its past.
+/// The verdict, in the run behind `run`, on a task that depends on its past; to wait where `run` or the task isn't
+/// there.
 fn past_verdict(state: &State, run: u32, task: u32) -> Verdict
     ensures { result ≡ past_ruling (value_in (cell_at state.now run task)) }
 {
@@ -65,7 +70,8 @@ fn past_verdict(state: &State, run: u32, task: u32) -> Verdict
     }
 }
 
-/// What comes of a verdict on a task once its past is looked at.
+/// The verdict on a task: `verdict`, which its upstreams give; but where that is to run, the task depends on its past
+/// and `run` isn't the first, that of the run before.
 pub(crate) fn verdict_with_past(
     state: &State,
     run: u32,

@@ -14,7 +14,7 @@ use bf_xcom::Pulled;
 use std::alloc::Global;
 
 impl Instance {
-    /// What it pushed, where it has finished.
+    /// What it pushed; nothing where it isn't finished or pushed nothing.
     fn pushed(&self) -> Option<&Xval>
         ensures { option_copied result ≡ pushed_by_one self.now }
     {
@@ -24,6 +24,7 @@ impl Instance {
         }
     }
 
+    /// A copy of what it pushed; nothing where it isn't finished or pushed nothing.
     pub(crate) fn copy_of_pushed(&self, alloc: Global) -> Result<Option<Xval>, OutOfMemory>
         ensures { IfOk result (λ value. value ≡ pushed_by_one self.now) }
     {
@@ -31,6 +32,8 @@ impl Instance {
     }
 }
 
+/// A copy of what the first instance pushed, which of an unmapped task is the only one; None where it isn't there,
+/// isn't finished or pushed nothing.
 pub(crate) fn pushed_by_first_of(
     alloc: Global,
     instances: &[Instance],
@@ -43,7 +46,7 @@ pub(crate) fn pushed_by_first_of(
     }
 }
 
-/// What instances pushed, by map index.
+/// A copy of what each instance pushed, by map index; one that isn't finished or pushed nothing is left out.
 fn pushed_by_all(alloc: Global, instances: &[Instance]) -> Result<Vec<Xval>, OutOfMemory>
     ensures { IfOk result (λ values. values.items ≡ filter_map pushed_by_one instances.now) }
 {
@@ -56,7 +59,8 @@ fn pushed_by_all(alloc: Global, instances: &[Instance]) -> Result<Vec<Xval>, Out
     Ok(values)
 }
 
-/// What is pulled from a task by its instances, where all have finished.
+/// What is pulled from the task `source` by its instances: what its only one pushed, or where it is expanded the list
+/// of what they pushed. None while one hasn't finished, or where the only one pushed nothing.
 fn pull_from(
     alloc: Global,
     source: &Task,
@@ -75,7 +79,8 @@ fn pull_from(
 }
 
 impl Cell {
-    /// What is pulled from a task that has this cell; nothing, while it is not settled.
+    /// What is pulled from the task `source` with this cell; None where it isn't settled or didn't run, or isn't
+    /// expanded and pushed nothing.
     #[tactic(auto, using(crate::proofs::Pulled::ran_pull))]
     fn pull(&self, alloc: Global, source: &Task) -> Result<Option<Xval>, OutOfMemory>
         ensures { IfOk result (λ value. value
@@ -88,7 +93,8 @@ impl Cell {
     }
 }
 
-/// What is pulled from a task in a run.
+/// What is pulled from the task `source` in a run; None where it isn't settled, didn't run or isn't there, or isn't
+/// expanded and pushed nothing.
 fn pull_in_run(
     alloc: Global,
     dag: &Dag,
@@ -106,7 +112,7 @@ fn pull_in_run(
     }
 }
 
-/// What is pulled from each of these tasks in a run.
+/// What is pulled from each of the tasks `sources` in a run, in their order: a value, or nothing.
 pub(crate) fn pull_all(
     alloc: Global,
     dag: &Dag,

@@ -4,7 +4,7 @@ ghost use Rattle.std.specs.FinMap;
 ghost use Rattle.bf_core.specs.Events.{cell_at, value_in, goes_on_in, instance_of, place_in, given_in, IsPresent, IsDecidable, has_room_in, next_run, entry_in, occupied};
 ghost use Rattle.bf_core.specs.Running.{running_now};
 ghost use Rattle.bf_core.specs.Cores.{GoesOn, IsThere, MayCome, deciding, IsReplay};
-ghost use Rattle.bf_core.specs.Terms.{Ledger, Phase, pool_size};
+ghost use Rattle.bf_core.specs.Terms.{Ledger as Tried, Phase, pool_size};
 ghost use Rattle.bf_core.specs.Agreement.{Holds, Agrees};
 ghost use Rattle.bf_core.specs.Clocks.{IsTimely};
 ghost use Rattle.bf_core.specs.Few.{AreFew};
@@ -60,26 +60,27 @@ impl<'a> Core<'a> {
         self.journal.as_slice()
     }
 
-    /// The task in the run, where both are there. Whatever is decided of it, and whatever came of its instances so
-    /// far, is the recursion's over every ledger that holds the entries so far. No task has more than 1,024 instances.
+    /// The cell of a task in a run, where both are there, with at most 1,024 instances. What it says of the task
+    /// so far is the recursion's over every ledger that holds the entries so far.
     pub fn cell(&self, run: u32, task: u32) -> Option<&Cell>
         ensures there { IsSome result ↔ IsThere self.now.dag self.now.state run task }
         ensures cell { IfSome result (λ c. c.now ≡ cell_at self.now.state run task) }
         ensures few { AreFew self.now.state }
-        ensures agrees { (ledger : Ledger) → Holds ledger (entry_in self.now.state.ledger)
+        ensures agrees { (ledger : Tried) → Holds ledger (entry_in self.now.state.ledger)
             → Agrees self.now.dag self.now.state ledger }
     {
         self.state.cell(run, task)
     }
 
-    /// Whether a task in a run is settled.
+    /// Whether a task in a run is settled: decided, and each of its instances finished.
     pub fn is_settled(&self, run: u32, task: u32) -> bool
         ensures { result ≡ is_some (value_in (cell_at self.now.state run task)) }
     {
         is_settled(&self.state, run, task)
     }
 
-    /// The instance that stands at the place of a name's map index, whichever of its tries the name is of.
+    /// The instance that a try's name speaks of, by its map index; None where there is none now. Which of its tries
+    /// is named doesn't matter.
     pub fn instance(&self, name: JobName) -> Option<&Instance>
         ensures { option_copied result
             ≡ instance_of (cell_at self.now.state name.run name.task) (place_in self.now.dag name) }
@@ -88,7 +89,7 @@ impl<'a> Core<'a> {
         instance_at(&self.state, name.run, name.task, place)
     }
 
-    /// The instance of a try that runs.
+    /// The instance of a try that runs now; None where the try doesn't run.
     pub fn running_instance(&self, name: JobName) -> Option<&Instance>
         ensures present { OnSome result (IsPresent self.now.dag self.now.state name Phase.Running) }
         ensures given { IfSome result (λ x. given_in (cell_at self.now.state name.run name.task)
@@ -99,7 +100,8 @@ impl<'a> Core<'a> {
         unfinished_instance(self.plan.dag(), &self.state, name, Unfinished::Running)
     }
 
-    /// The moment for which a try waits, where that is later than what the clock shows. The clock may come to it.
+    /// The moment for which a try waits, in seconds since 1970, where that is later than what the clock shows, so
+    /// that the clock may come to it; None where it has come, or the try waits for none.
     pub fn later_moment_of(&self, name: JobName) -> Option<i64>
         ensures moment { IfSome result (λ m. FinMap.get self.now.clock.moments name ≡ Some m) }
         ensures may_come { IfSome result (λ m. MayCome self.now (Event.Tick m)) }
@@ -117,7 +119,7 @@ impl<'a> Core<'a> {
         self.pools.occupied(pool)
     }
 
-    /// Whether the slots of a task fit its pool beside those that are occupied.
+    /// Whether the slots that a try of the task takes fit its pool beside those that are occupied.
     pub fn has_room(&self, task: u32) -> bool
         requires { task < length self.now.dag.tasks }
         ensures { result ≡ has_room_in self.now.limits self.now.state task }
@@ -135,7 +137,8 @@ impl<'a> Core<'a> {
         self.next_to_open().is_some()
     }
 
-    /// The event that decides a task, where it may be decided now: by its expansion, or without.
+    /// The event that decides a task now, `Expand` where it is by its expansion, else `Settle`; None where the task
+    /// can't be decided now, or isn't there.
     pub fn decision_event(&self, run: u32, task: u32) -> Option<Event>
         ensures may_come { IfSome result (MayCome self.now) }
         ensures decides { IfSome result
@@ -163,7 +166,7 @@ impl<'a> Core<'a> {
         }
     }
 
-    /// Whether a run may be closed.
+    /// Whether a run may be closed: it is open, and each of its tasks is settled.
     pub fn may_close(&self, run: u32) -> bool
         ensures { IsTrue result ↔ MayCome self.now (Event.Close run) }
     {

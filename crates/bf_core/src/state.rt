@@ -34,6 +34,7 @@ const ONE_UNFINISHED: Counts = Counts {
     unfinished: 1,
 };
 
+/// The counts of one instance with this outcome.
 fn counts_of_outcome(outcome: &Outcome) -> Counts
     ensures { result ≡ one_of outcome.now }
 {
@@ -47,6 +48,7 @@ fn counts_of_outcome(outcome: &Outcome) -> Counts
 }
 
 impl Phase {
+    /// The counts of one instance in this phase.
     fn counts(&self) -> Counts
         ensures { result ≡ counts_of_instance self.now }
     {
@@ -56,6 +58,7 @@ impl Phase {
         }
     }
 
+    /// Whether the instance is finished: no try of it runs or comes any more.
     fn is_finished(&self) -> bool
         ensures { result ≡ is_finished self.now }
     {
@@ -80,7 +83,8 @@ pub(crate) enum Change {
     End { retries: u32, outcome: Outcome },
 }
 
-/// Whether a try that ended so is made again, where its task has that many retries.
+/// Whether a try is followed by another: it failed, and its number `attempt`, from 1, is at most the task's
+/// `retries`.
 pub(crate) fn is_retried(retries: u32, attempt: u32, outcome: &Outcome) -> bool
     ensures { result ≡ is_made_again retries attempt outcome.now }
 {
@@ -88,6 +92,7 @@ pub(crate) fn is_retried(retries: u32, attempt: u32, outcome: &Outcome) -> bool
 }
 
 impl Instance {
+    /// Begins a try, or ends it: to wait for the next one where it is retried, and else to be finished.
     fn change(&mut self, change: Change)
         requires { IsCountable change }
         ensures { self.new ≡ changed change self.old }
@@ -106,6 +111,7 @@ impl Instance {
     }
 }
 
+/// How many of the instances are in each state.
 fn counts_of(instances: &[Instance]) -> Counts
     requires { length instances.now ≤ most_items }
     ensures { result ≡ counts_of_instances instances.now }
@@ -117,6 +123,7 @@ fn counts_of(instances: &[Instance]) -> Counts
     counts
 }
 
+/// Whether all instances are finished.
 pub(crate) fn are_finished(instances: &[Instance]) -> bool
     ensures { result ≡ list_all (λ x. is_finished x.phase) instances.now }
 {
@@ -160,7 +167,7 @@ impl Cell {
         }
     }
 
-    /// Whether the task is settled.
+    /// Whether the task is settled: decided, and each of its instances finished.
     #[tactic(auto, using(crate::proofs::Sums::finished_settled))]
     pub fn is_settled(&self) -> bool
         ensures { result ≡ is_some (value_in self.now) }
@@ -172,6 +179,7 @@ impl Cell {
         }
     }
 
+    /// Begins or ends the present try of the instance at `place`, from 0.
     fn change_instance_at(&mut self, place: usize, change: Change)
         requires countable { IsCountable change }
         requires there { IsSome (instance_of self.old place) }
@@ -184,6 +192,7 @@ impl Cell {
     }
 }
 
+/// Where a run is: not opened, open, or closed.
 #[derive(Clone, Copy, Debug, PartialEq, Eq)]
 pub enum RunPhase {
     Unopened,
@@ -192,12 +201,14 @@ pub enum RunPhase {
 }
 
 impl RunPhase {
+    /// Whether the run is closed.
     pub(crate) fn is_closed(self) -> bool
         ensures { result ≡ is_closed self }
     {
         matches!(self, RunPhase::Closed)
     }
 
+    /// Whether the run is open: begun, and not closed.
     pub(crate) fn is_open(self) -> bool
         ensures { result ≡ is_open self }
     {
@@ -212,12 +223,14 @@ pub struct Run {
     pub cells: Sequence<Cell>,
 }
 
+/// Whether all tasks of a run are settled: decided, and their instances finished.
 fn are_settled(cells: &[Cell]) -> bool
     ensures { result ≡ list_all (λ c. is_some (value_in c)) cells.now }
 {
     cells.iter().all(|cell| cell.is_settled())
 }
 
+/// Whether a run is open and all its tasks are settled.
 pub(crate) fn is_closable(row: &Run) -> bool
     ensures { result ≡ (is_open row.now.phase
         && list_all (λ c. is_some (value_in c)) row.now.cells) }
@@ -225,6 +238,7 @@ pub(crate) fn is_closable(row: &Run) -> bool
     row.phase.is_open() && are_settled(row.cells.as_slice())
 }
 
+/// The cells of a run of so many tasks, none of which is decided yet.
 #[tactic(auto, using(crate::proofs::Starting::one_more_cell))]
 fn undecided_cells(alloc: Global, tasks: usize) -> Result<Sequence<Cell>, OutOfMemory>
     ensures { IfOk result (λ cells. cells ≡ undecided_cells_of tasks) }
@@ -236,7 +250,7 @@ fn undecided_cells(alloc: Global, tasks: usize) -> Result<Sequence<Cell>, OutOfM
     Ok(Sequence::from_vec(cells))
 }
 
-/// Runs that are not opened, each with a cell for each task.
+/// So many runs that are not opened, each with an undecided cell for each of so many tasks.
 #[tactic(auto, using(crate::proofs::Starting::one_more_run))]
 pub(crate) fn unopened_runs(
     alloc: Global,
@@ -263,7 +277,7 @@ pub struct State {
 }
 
 impl State {
-    /// The cell of a task in a run, where both are there.
+    /// The cell of a task in a run; None where the run or the task isn't there.
     pub fn cell(&self, run: u32, task: u32) -> Option<&Cell>
         ensures there { IsSome result ↔
             ((run < length self.now.runs) × (task < length (row_of self.now.runs run).cells)) }
@@ -276,7 +290,7 @@ impl State {
         }
     }
 
-    /// Whether a run is open.
+    /// Whether a run is open; false where there is no such run.
     pub(crate) fn is_open(&self, run: u32) -> bool
         ensures { result ≡ is_open (phase_of self.now run) }
     {
@@ -286,7 +300,7 @@ impl State {
         }
     }
 
-    /// Puts a cell in the place of another, and hands that back.
+    /// Puts a cell into the place of a task in a run, and hands the former one back.
     pub(crate) fn replace_cell(&mut self, run: u32, task: u32, cell: Cell) -> Cell
         requires run { run < length self.old.runs }
         requires task { task < length (row_of self.old.runs run).cells }
@@ -306,7 +320,7 @@ impl State {
         row.phase = phase;
     }
 
-    /// Changes an instance.
+    /// Begins or ends the present try of the instance at `place`, from 0, of a task in a run.
     pub(crate) fn change_instance_at(&mut self, run: u32, task: u32, place: usize, change: Change)
         requires run { run < length self.old.runs }
         requires task { task < length (row_of self.old.runs run).cells }

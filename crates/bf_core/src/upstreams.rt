@@ -12,7 +12,7 @@ use bf_plan::{Dag, Plan, Task};
 use bf_rule::{Counts, Verdict, followed, verdict};
 use bf_try::Outcome;
 
-/// How many instances of a task are in each state; of one that isn't there as of one that is undecided.
+/// How many instances of a task in a run are in each state; a task that isn't there counts as undecided.
 fn counts_at(state: &State, run: u32, task: u32) -> Counts
     requires { AreFew state.now }
     ensures counts { result ≡ counts_of_cell (cell_at state.now run task) }
@@ -40,6 +40,7 @@ fn counts_of_upstreams(state: &State, run: u32, upstreams: &[u32]) -> Counts
     counts
 }
 
+/// Whether a task is decided in a run and all its instances are finished; false where there is no such task.
 pub(crate) fn is_settled(state: &State, run: u32, task: u32) -> bool
     ensures { result ≡ is_some (value_in (cell_at state.now run task)) }
 {
@@ -49,7 +50,8 @@ pub(crate) fn is_settled(state: &State, run: u32, task: u32) -> bool
     }
 }
 
-/// Whether a task can be decided as far as one of its upstreams goes.
+/// Whether an upstream doesn't keep a task from being decided in a run: it is settled, or it is no branch and the
+/// task's rule may decide before it is settled.
 fn lets_decide(dag: &Dag, state: &State, run: u32, task: &Task, upstream: u32) -> bool
     ensures { result ≡ lets_decide_in dag.now task.now (λ u. seen_in (cell_at state.now run u))
         upstream }
@@ -58,6 +60,7 @@ fn lets_decide(dag: &Dag, state: &State, run: u32, task: &Task, upstream: u32) -
         || (!task.rule.waits_until_settled() && !dag.is_branch(upstream))
 }
 
+/// Whether none of these upstreams keeps a task from being decided in a run.
 fn all_let_decide(dag: &Dag, state: &State, run: u32, task: &Task, upstreams: &[u32]) -> bool
     ensures { result ≡ list_all (lets_decide_in dag.now task.now
         (λ u. seen_in (cell_at state.now run u))) upstreams.now }
@@ -67,7 +70,7 @@ fn all_let_decide(dag: &Dag, state: &State, run: u32, task: &Task, upstreams: &[
         .all(|upstream| lets_decide(dag, state, run, task, *upstream))
 }
 
-/// Whether a branch whose instance is in this phase succeeded and does not follow a task.
+/// Whether a branch whose instance is in this phase skips a task: it succeeded, and doesn't follow the task.
 fn phase_skips(plan: &Plan, branch: u32, task: u32, phase: &Phase) -> bool
     requires { task < length plan.now.dag.tasks }
     ensures { result ≡ phase_skips_in plan.now.dag task branch phase.now }
@@ -80,6 +83,8 @@ fn phase_skips(plan: &Plan, branch: u32, task: u32, phase: &Phase) -> bool
     }
 }
 
+/// Whether a branch with these instances skips a task: all have finished, and the first succeeded and doesn't follow
+/// it.
 fn instances_skip(plan: &Plan, branch: u32, task: u32, instances: &[Instance]) -> bool
     requires { task < length plan.now.dag.tasks }
     ensures { result ≡ instances_skip_in plan.now.dag task branch instances.now }
@@ -93,7 +98,7 @@ fn instances_skip(plan: &Plan, branch: u32, task: u32, instances: &[Instance]) -
 }
 
 impl Cell {
-    /// Whether a branch that has this cell succeeded and does not follow a task.
+    /// Whether a branch with this cell skips a task: it succeeded, and doesn't follow the task.
     #[tactic(auto, using(crate::proofs::Branching::ran_skips))]
     fn skips_task(&self, plan: &Plan, branch: u32, task: u32) -> bool
         requires { task < length plan.now.dag.tasks }
@@ -105,6 +110,7 @@ impl Cell {
         }
     }
 
+    /// Whether the task is decided to be blocked.
     #[tactic(auto, using(crate::proofs::Branching::ran_not_blocked))]
     fn is_blocked(&self) -> bool
         ensures { result ≡ known_to_be is_blocked_in (value_in self.now) }
@@ -116,6 +122,7 @@ impl Cell {
     }
 }
 
+/// Whether an upstream is a branch that skips a task in a run.
 #[tactic(auto, using(crate::proofs::Branching::known_branch))]
 fn branch_skips_task(plan: &Plan, state: &State, run: u32, upstream: u32, task: u32) -> bool
     requires { task < length plan.now.dag.tasks }
@@ -128,6 +135,7 @@ fn branch_skips_task(plan: &Plan, state: &State, run: u32, upstream: u32, task: 
     }
 }
 
+/// Whether an upstream is a branch that is blocked in a run.
 #[tactic(auto, using(crate::proofs::Branching::known_branch))]
 fn branch_is_blocked(dag: &Dag, state: &State, run: u32, upstream: u32) -> bool
     ensures { result ≡ branch_is dag.now is_blocked_in upstream
@@ -139,6 +147,7 @@ fn branch_is_blocked(dag: &Dag, state: &State, run: u32, upstream: u32) -> bool
     }
 }
 
+/// Whether one of these upstreams is a branch that skips a task in a run.
 fn any_branch_skips(plan: &Plan, state: &State, run: u32, task: u32, upstreams: &[u32]) -> bool
     requires { task < length plan.now.dag.tasks }
     ensures { result ≡ list_any (λ u. branch_is plan.now.dag (branch_skips plan.now.dag task u) u
@@ -147,6 +156,7 @@ fn any_branch_skips(plan: &Plan, state: &State, run: u32, task: u32, upstreams: 
     upstreams.iter().any(|upstream| branch_skips_task(plan, state, run, *upstream, task))
 }
 
+/// Whether one of these upstreams is a branch that is blocked in a run.
 fn any_branch_is_blocked(dag: &Dag, state: &State, run: u32, upstreams: &[u32]) -> bool
     ensures { result ≡ list_any (λ u. branch_is dag.now is_blocked_in u
         (value_in (cell_at state.now run u))) upstreams.now }

@@ -15,7 +15,7 @@ pub enum Field {
 }
 
 impl Field {
-    /// The least number that the field can have.
+    /// The least number that the field can have: 1 for days and months, else 0.
     pub fn least(self) -> u8
         ensures { result ≡ least_of self }
     {
@@ -25,7 +25,7 @@ impl Field {
         }
     }
 
-    /// The greatest number that the field can have.
+    /// The greatest number that the field can have, included: 7, a second Sunday, for weekdays.
     pub fn greatest(self) -> u8
         ensures { result ≡ greatest_of self }
     {

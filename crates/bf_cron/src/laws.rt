@@ -11,18 +11,18 @@ ghost use Rattle.bf_cron.specs.Grammar.{IsItemText, IsScheduleText};
 ghost use Rattle.bf_cron.specs.declared.field.Field.{Field};
 ghost use Rattle.bf_cron.specs.declared.item.Item.{Item};
 
-/// A text is read as an item exactly where it is written as that item.
+/// A law: a text is read as an item exactly where it is written as that item.
 pub fn items_are_read_as_written()
     ensures { (f : Field) (text : List ℕ) (i : Item) → (item_of f text ≡ Some i)
         ↔ IsItemText f text i }
 {}
 
-/// A text is read as a schedule exactly where it is written as that schedule.
+/// A law: a text is read as a schedule exactly where it is written as that schedule.
 pub fn schedules_are_read_as_written()
     ensures { (text : List ℕ) (s : Schedule) → (schedule_of text ≡ Some s) ↔ IsScheduleText text s }
 {}
 
-/// A schedule that a text says, and that has a civil minute, has one in each leap year from 1972 on.
+/// A law: a schedule that a text says, and that has a civil minute, has one in each leap year from 1972 on.
 pub fn fires_in_each_leap_year()
     ensures { (text : List ℕ) (spec : CronSpec) → IsRead (schedule_of text) (Ok spec) →
         (minute : ℕ) (at : DateTime) → IsMinute minute at → spec_matches spec at ≡ true →

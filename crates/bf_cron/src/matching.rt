@@ -8,6 +8,7 @@ use crate::spec::{CronFault, CronSpec};
 use jiff::civil::{Date, DateTime};
 use std::alloc::Global;
 
+/// Whether the set `word` of numbers below 64, one bit each, has this number.
 fn is_bit_set(word: u64, number: u8) -> bool
     requires { number < 64 }
     ensures { result ≡ has_number word number }
@@ -15,6 +16,7 @@ fn is_bit_set(word: u64, number: u8) -> bool
     (word >> number) & 1 == 1
 }
 
+/// The day of the month of a date.
 fn day_number(date: Date) -> u8
     ensures value { result ≡ date.day }
     ensures bound { result < 32 }
@@ -22,6 +24,7 @@ fn day_number(date: Date) -> u8
     date.day() as u8
 }
 
+/// The month of a date, from 1.
 fn month_number(date: Date) -> u8
     ensures value { result ≡ date.month }
     ensures bound { result < 13 }
@@ -29,19 +32,21 @@ fn month_number(date: Date) -> u8
     date.month() as u8
 }
 
-/// From Sunday, which is 0.
+/// The day of the week of a date, from Sunday, which is 0.
 fn weekday_number(date: Date) -> u8
     ensures { result ≡ (weekday_of date + 1) % 7 }
 {
     date.weekday().to_sunday_zero_offset() as u8
 }
 
+/// The hour of a civil time.
 fn hour_number(at: DateTime) -> u8
     ensures { result ≡ at.time.hour }
 {
     at.hour() as u8
 }
 
+/// The minute of a civil time.
 fn minute_number(at: DateTime) -> u8
     ensures { result ≡ at.time.minute }
 {
@@ -49,8 +54,7 @@ fn minute_number(at: DateTime) -> u8
 }
 
 impl CronSpec {
-    /// The schedule of a text: five fields or a preset (the crate's page). `Bad` comes exactly where the text is
-    /// neither, want of memory aside.
+    /// The schedule of a text: five fields or a preset (the crate's page). `Bad` exactly where the text is neither.
     pub fn read(alloc: Global, text: &str) -> Result<CronSpec, CronFault>
         ensures { IsRead (schedule_of text.now) result }
     {
@@ -62,6 +66,7 @@ impl CronSpec {
         reading::spec_of_fields(minute, hour, day, month, weekday).ok_or(CronFault::Bad)
     }
 
+    /// Whether the schedule has a day of the week, 0 for Sunday, which its field may also call 7.
     fn has_weekday(&self, weekday: u8) -> bool
         requires { weekday < 7 }
         ensures { result ≡ spec_on_weekday self.now weekday }
@@ -69,7 +74,9 @@ impl CronSpec {
         is_bit_set(self.weekdays, weekday) || weekday == 0 && is_bit_set(self.weekdays, 7)
     }
 
-    fn has_day_with_weekday(&self, day: u8, weekday: u8) -> bool
+    /// Whether the schedule has this day of a month that falls on this weekday, 0 for Sunday: where both fields are
+    /// restricted either suffices, else both must match (crontab(5)).
+    fn has_day_of_month(&self, day: u8, weekday: u8) -> bool
         requires day { day < 32 }
         requires weekday { weekday < 7 }
         ensures { result ≡ spec_on_day self.now day weekday }
@@ -82,7 +89,7 @@ impl CronSpec {
         }
     }
 
-    /// Whether the schedule has the hour.
+    /// Whether the hour field of the schedule has this hour.
     pub fn has_hour(&self, hour: u8) -> bool
         requires { hour < 24 }
         ensures { result ≡ has_number self.now.hours hour }
@@ -90,7 +97,7 @@ impl CronSpec {
         is_bit_set(self.hours, hour)
     }
 
-    /// Whether the schedule has the minute of an hour.
+    /// Whether the minute field of the schedule has this minute of an hour.
     pub fn has_minute(&self, minute: u8) -> bool
         requires { minute < 60 }
         ensures { result ≡ has_number self.now.minutes minute }
@@ -105,6 +112,7 @@ pub trait Scheduled {
 
     ghost spec: { Self → CronSpec };
 
+    /// The schedule that it has.
     fn schedule(&self) -> &CronSpec
         ensures { result.now ≡ spec self.now };
 }
@@ -142,15 +150,17 @@ impl<S: Scheduled> Matches for S {
     }
 }
 
+/// Whether a schedule has a date: its month, and its day as `has_day_with_weekday` joins day and weekday.
 fn schedule_has_date(spec: &CronSpec, date: Date) -> bool
     ensures { result ≡ spec_has_date spec.now date }
 {
     if !is_bit_set(spec.months, month_number(date)) {
         return false;
     }
-    spec.has_day_with_weekday(day_number(date), weekday_number(date))
+    spec.has_day_of_month(day_number(date), weekday_number(date))
 }
 
+/// Whether a schedule has a civil time's minute, hour and date. Seconds don't count.
 fn schedule_matches(spec: &CronSpec, at: DateTime) -> bool
     ensures value { result ≡ spec_matches spec.now at }
     ensures rule { (s : Schedule) → Keeps spec.now s → spec_matches spec.now at ≡ matches s at }

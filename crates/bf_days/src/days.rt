@@ -15,7 +15,7 @@ pub struct Days {
     pub last: i64,
 }
 
-/// The day that a text spells, as `2024-03-04`.
+/// The day that a text spells, as `2024-03-04`, in days after 1970-01-01; None for any other text.
 fn day_in(text: &str) -> Option<i64>
     ensures found { IfSome result (SpellsDay text.now) }
     ensures none { IfNone result ((day : ℤ) → SpellsDay text.now day → ⊥) }
@@ -28,7 +28,8 @@ fn day_in(text: &str) -> Option<i64>
 }
 
 impl Days {
-    /// The days that a text spells: one, as `2024-03-04`, or those from one to another, as `2024-03-04..2024-03-10`.
+    /// The days that a text spells: one, as `2024-03-04`, or those from one to another, both included, as
+    /// `2024-03-04..2024-03-10`; None for any other text. The first may be after the last.
     pub fn read(text: &str) -> Option<Days>
         ensures found { IfSome result (SpellDays text.now) }
         ensures none { IfNone result ((days : Days) → SpellDays text.now days → ⊥) }

@@ -6,7 +6,7 @@ ghost use Rattle.bf_interval.specs.declared.interval.Interval.{Interval};
 ghost use Rattle.bf_days.specs.Listing.{AreIntervalsOn};
 ghost use Rattle.bf_days.specs.declared.days.Days.{Days};
 
-/// A schedule in a zone has one listing of the same days.
+/// A law: a schedule in a zone has one listing of the same days.
 pub fn listing_is_unique()
     ensures { (spec : CronSpec) (zone : TimeZone) (days : Days) (xs ys : List Interval)
         → AreIntervalsOn spec zone days xs → AreIntervalsOn spec zone days ys → xs ≡ ys }

@@ -35,19 +35,20 @@ struct Search<'a, 'z> {
     days: Days,
 }
 
-/// The moment of a nanosecond since 1970.
+/// The moment so many nanoseconds after 1970-01-01T00:00Z.
 fn moment_of_nanosecond(nanosecond: u64) -> Timestamp
     requires { nanosecond < 7_258_118_399_000_000_001 }
     ensures { result.nanosecond ≡ pos nanosecond }
 {
-    let Ok(moment_of_nanosecond) = Timestamp::from_nanosecond(i128::from(nanosecond)) else {
+    let Ok(moment) = Timestamp::from_nanosecond(i128::from(nanosecond)) else {
         unreachable!();
     };
-    moment_of_nanosecond
+    moment
 }
 
 impl Search<'_, '_> {
-    /// Adds those of the data intervals that start on the days.
+    /// Adds to `found` those of the `listed` data intervals that start on the days sought; `TooManyRuns` where these
+    /// would be more than `MOST_RUNS`.
     fn push_those_on_days(
         self,
         found: &mut Vec<Interval>,
@@ -73,8 +74,8 @@ impl Search<'_, '_> {
         Ok(())
     }
 
-    /// Adds the data intervals that start on the days, from one nanosecond on and before another. Where more start between these
-    /// than can be listed at once, on the days or not, they are halved.
+    /// Adds to `found` the data intervals that start on the days sought, from the nanosecond `from` on and before
+    /// `to`. Where more start in this time than can be listed at once, on those days or not, it is halved.
     fn push_intervals_between(
         self,
         alloc: Global,
@@ -116,15 +117,17 @@ impl Search<'_, '_> {
     }
 }
 
+/// Whether a day, counted from 1970-01-01, which is 0, is within the years 1970 to 2199.
 fn is_in_years(day: i64) -> bool
     ensures { IsTrue result ↔ IsDayInYears day }
 {
     (0..=LAST_DAY).contains(&day)
 }
 
-/// The data intervals at whose start a clock of the zone shows one of the days, in order; none where the schedule never fires. Those
-/// that start outside the years of runs aren't among them. Refused is, in this order: a day outside the years 1970 to 2199, a first
-/// day behind the last, and more than `MOST_RUNS` data intervals. Those of a schedule that some text says are such as runs have.
+/// The data intervals at whose start a clock of the zone shows one of the days, in order; none where the schedule
+/// never fires. Those that start outside the years of runs aren't among them. A fault comes, in this order, for a day
+/// outside the years 1970 to 2199, a first day after the last, and more than `MOST_RUNS` data intervals. Those of a
+/// schedule that was read from a text may be given to `Runs::from_intervals`.
 pub fn intervals_on(
     alloc: Global,
     spec: &CronSpec,

@@ -4,11 +4,11 @@ use Rattle.bf_dependents.specs.declared.fault.ClearFault.{ClearFault}
 use Rattle.bf_dependents.specs.declared.fault.ClearFault.TheVariants.{UnknownTask, UnknownRun, ReportMismatch, OutOfMemory}
 
 -- the number of the refusal, which want of memory doesn't have
-abbrev pub fault_number : ClearFault → Option ℕ
-fault_number UnknownTask = Some 40
-fault_number UnknownRun = Some 41
-fault_number ReportMismatch = Some 42
-fault_number OutOfMemory = None
+abbrev pub refusal_number_of : ClearFault → Option ℕ
+refusal_number_of UnknownTask = Some 40
+refusal_number_of UnknownRun = Some 41
+refusal_number_of ReportMismatch = Some 42
+refusal_number_of OutOfMemory = None
 
 -- why nothing is cleared, as it is printed
 abbrev pub fault_text : ClearFault → List ℕ

@@ -1,6 +1,6 @@
 //! Why nothing is cleared.
 ghost use Rattle.std.specs.Prelude.{◌≡◌};
-ghost use Rattle.bf_dependents.specs.Faults.{fault_number};
+ghost use Rattle.bf_dependents.specs.Faults.{refusal_number_of};
 
 use bf_value::OutOfMemory;
 use std::error::Error;
@@ -19,9 +19,9 @@ pub enum ClearFault {
 }
 
 impl ClearFault {
-    /// The number of the refusal, which want of memory doesn't have.
+    /// The number of the refusal (docs/FORMATS.md), 40 to 42; None for want of memory.
     pub fn refusal_number(self) -> Option<u32>
-        ensures { result ≡ fault_number self }
+        ensures { result ≡ refusal_number_of self }
     {
         match self {
             ClearFault::UnknownTask => Some(40),
@@ -38,6 +38,7 @@ impl fmt::Display for ClearFault {
 
     ghost output = { λ fault. Some (fault_text fault) };
 
+    /// Writes the words of the fault.
     fn fmt<W: fmt::Write>(&self, f: &mut fmt::Formatter<W>) -> fmt::Result {
         f.write_str(match self {
             ClearFault::UnknownTask => "unknown task",

@@ -13,13 +13,15 @@ use bf_plan::{Dag, Plan};
 use bf_value::{OutOfMemory, Sequence};
 use std::alloc::Global;
 
+/// Whether one of these tasks is marked.
 fn some_is_marked(marks: &[bool], tasks: &[u32]) -> bool
     ensures { result ≡ list_any (is_marked_in marks.now) tasks.now }
 {
     tasks.iter().any(|task| is_marked(marks, *task))
 }
 
-/// Whether a task is a seed, or depends on a past that is marked, or has an upstream that is marked.
+/// Whether a task has to be marked in a run: it is one of the seeds `seeded`, depends on its past and is marked in
+/// `before`, the run before, or has an upstream marked in `marks`, this run.
 pub(crate) fn follows(
     dag: &Dag,
     task: u32,
@@ -36,7 +38,8 @@ pub(crate) fn follows(
         || some_is_marked(marks, of.upstreams.as_slice())
 }
 
-/// The marks of a run, by its seeds and by the marks of the run before it.
+/// The marks of the tasks of a run, by its seeds, `seeded`, and by the marks of the run before it, `before`, empty
+/// for the first. `order` has each task after its upstreams.
 fn marks_of(
     alloc: Global,
     dag: &Dag,
@@ -57,7 +60,7 @@ fn marks_of(
     Ok(Sequence::from_vec(marks))
 }
 
-/// For each of so many runs the marks of the tasks of which an instance follows.
+/// For each of the first `runs` runs the marks of the tasks of which an instance follows from the seeds.
 pub(crate) fn touched_marks_of(
     alloc: Global,
     plan: &Plan,

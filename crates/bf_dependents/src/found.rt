@@ -14,6 +14,7 @@ use std::alloc::Global;
 use std::collections::BTreeSet;
 use std::marker::Model;
 
+/// The seeds as a set, each once.
 fn seed_set_of(alloc: Global, seeds: &[Place]) -> Result<BTreeSet<Place>, OutOfMemory>
     ensures { IfOk result (λ held. HoldSeeds seeds.now held.keys) }
 {
@@ -24,7 +25,8 @@ fn seed_set_of(alloc: Global, seeds: &[Place]) -> Result<BTreeSet<Place>, OutOfM
     Ok(held)
 }
 
-/// Which instances follow from seeds. Contracts see for each run the marks of the tasks of which one follows, and the seeds.
+/// Which instances follow from seeds. A task is touched in a run where one of its instances follows. Contracts see
+/// for each run the marks of the touched tasks, and the seeds.
 #[derive(Drop)]
 pub struct Followers {
     touched: Sequence<Sequence<bool>>,
@@ -44,6 +46,7 @@ impl Model for Followers {
 }
 
 impl Followers {
+    /// What follows from these seeds; `touched` has the marks of the touched tasks of each run.
     pub(crate) fn new(
         alloc: Global,
         touched: Sequence<Sequence<bool>>,
@@ -56,25 +59,30 @@ impl Followers {
         Ok(Followers { touched, seeds })
     }
 
+    /// The seeds that all this follows from.
     pub(crate) fn seeds(&self) -> &BTreeSet<Place>
         ensures { result.now.keys ≡ self.now.seeds }
     {
         &self.seeds
     }
 
+    /// Whether an instance of a task follows in a run; false where there is no such run.
     pub(crate) fn is_touched(&self, run: u32, task: u32) -> bool
         ensures { result ≡ is_marked_in (row_at self.now.touched run) task }
     {
         is_marked(marks_at(self.touched.as_slice(), run), task)
     }
 
+    /// Whether a task in a run is a seed: as a whole where `index` is None, and else just its instance of this map
+    /// index.
     fn has_seed(&self, run: u32, task: u32, index: Option<i32>) -> bool
         ensures { result ≡ has_seed_in self.now.seeds run task index }
     {
         self.seeds.contains(&Place { run, task, index })
     }
 
-    /// Whether each instance of a task follows, where some does.
+    /// Whether each instance of a touched task follows in a run, and not only those that are seeds by their map
+    /// index.
     pub(crate) fn is_whole(&self, dag: &Dag, run: u32, task: u32) -> bool
         requires { task < length dag.now.tasks }
         ensures { result ≡ is_whole_in dag.now self.now run task }
@@ -84,6 +92,8 @@ impl Followers {
             || follows(dag, task, &[], marks_before(rows, run), marks_at(rows, run))
     }
 
+    /// Whether an instance of a task that is touched in a run follows: it is a seed itself, or the whole task
+    /// follows.
     fn is_led_to(&self, dag: &Dag, run: u32, task: u32, index: i32) -> bool
         requires { task < length dag.now.tasks }
         ensures { result ≡ is_led_to_in dag.now self.now run task index }
@@ -94,7 +104,8 @@ impl Followers {
             || follows(dag, task, &[], marks_before(rows, run), marks_at(rows, run))
     }
 
-    /// Whether an instance of a task follows. In a run that isn't there none does. Takes time over the direct upstreams of the task.
+    /// Whether an instance of a task follows in a run; false where there is no such run. Takes time over the task's
+    /// direct upstreams.
     pub fn has_instance(&self, dag: &Dag, run: u32, task: u32, index: i32) -> bool
         requires { task < length dag.now.tasks }
         ensures { result ≡ has_instance_in dag.now self.now run task index }
@@ -103,8 +114,8 @@ impl Followers {
     }
 }
 
-/// Which instances of so many runs follow from the seeds. Takes time for each run over the tasks and edges, and once over the
-/// seeds.
+/// Which instances of the first `runs` runs follow from the seeds, these among them. Takes time for each run over the
+/// tasks and edges, and once over the seeds.
 pub fn dependents(
     alloc: Global,
     plan: &Plan,

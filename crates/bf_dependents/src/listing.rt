@@ -10,6 +10,7 @@ use bf_value::OutOfMemory;
 use std::alloc::{AllocError, Global};
 
 impl Followers {
+    /// The seeds that are of this task in this run, as a whole or by a map index.
     fn seeds_at(&self, alloc: Global, run: u32, task: u32) -> Result<Vec<Place>, AllocError>
         ensures { IfOk result (λ found. found.items ≡ filter (is_of run task) self.now.seeds) }
     {
@@ -20,6 +21,8 @@ impl Followers {
             .collect(alloc)
     }
 
+    /// What follows of a task in a run: the task without an index where each instance does, else its seeds, none
+    /// where it isn't touched.
     fn places_at(
         &self,
         alloc: Global,
@@ -40,6 +43,7 @@ impl Followers {
         Ok(self.seeds_at(alloc, run, task)?)
     }
 
+    /// Adds to `places` what follows in a run, of the first `tasks` tasks, in file order.
     fn add_run(
         &self,
         alloc: Global,
@@ -59,8 +63,9 @@ impl Followers {
         Ok(())
     }
 
-    /// What follows in so many runs, by run and task in the file's order: a task of which each instance follows without an index,
-    /// and else the instances that are seeds. Takes time over the seeds for each task of which some instances follow and others don't.
+    /// What follows in the first `runs` runs, by run and task in the file's order: a task of which each instance
+    /// follows without an index, and else the instances that are seeds. Takes time over the seeds for each task of
+    /// which some instances follow and others don't.
     pub fn places(&self, alloc: Global, plan: &Plan, runs: u32) -> Result<Vec<Place>, OutOfMemory>
         ensures { IfOk result (λ places. places.items ≡ places_in plan.now.dag self.now runs) }
     {

@@ -20,12 +20,14 @@ pub struct Seed {
     pub index: Option<i32>,
 }
 
+/// The number of the task that a seed names; None where the plan has none.
 fn task_number_of(plan: &Plan, seed: &Seed) -> Option<u32>
     ensures { result ≡ task_number plan.now.dag seed.now }
 {
     plan.graph().number_of(seed.task.as_str())
 }
 
+/// The number, from 0, of the run whose data interval starts at the seed's moment; None where there is none.
 fn run_number_of(intervals: &[Interval], seed: &Seed) -> Option<usize>
     ensures { result ≡ run_number intervals.now seed.now }
 {
@@ -33,31 +35,36 @@ fn run_number_of(intervals: &[Interval], seed: &Seed) -> Option<usize>
     intervals.iter().position(|interval| interval.start == run)
 }
 
+/// Whether a seed names a task that the plan doesn't have.
 fn is_unknown_task(plan: &Plan, seed: &Seed) -> bool
     ensures { result ≡ is_unknown_task_in plan.now.dag seed.now }
 {
     task_number_of(plan, seed).is_none()
 }
 
+/// Whether a seed names a run that is over none of these data intervals.
 fn is_unknown_run(intervals: &[Interval], seed: &Seed) -> bool
     ensures { result ≡ is_unknown_run_in intervals.now seed.now }
 {
     run_number_of(intervals, seed).is_none()
 }
 
+/// Whether some seed names a task that the plan doesn't have.
 fn has_unknown_task(plan: &Plan, seeds: &[Seed]) -> bool
     ensures { result ≡ list_any (is_unknown_task_in plan.now.dag) seeds.now }
 {
     seeds.iter().any(|seed| is_unknown_task(plan, seed))
 }
 
+/// Whether some seed names a run that is over none of these data intervals.
 fn has_unknown_run(intervals: &[Interval], seeds: &[Seed]) -> bool
     ensures { result ≡ list_any (is_unknown_run_in intervals.now) seeds.now }
 {
     seeds.iter().any(|seed| is_unknown_run(intervals, seed))
 }
 
-/// Refuses seeds of which one names a task that isn't known, and else those of which one names a run that isn't.
+/// `UnknownTask` where a seed names a task that the plan doesn't have, and else `UnknownRun` where one names a run
+/// that is over none of these data intervals.
 pub fn refuse_seeds(plan: &Plan, intervals: &[Interval], seeds: &[Seed]) -> Result<(), ClearFault>
     ensures ok { IfOk result (λ _. seed_fault plan.now.dag intervals.now seeds.now ≡ None) }
     ensures err { IfErr result (λ fault. seed_fault plan.now.dag intervals.now seeds.now
@@ -72,6 +79,7 @@ pub fn refuse_seeds(plan: &Plan, intervals: &[Interval], seeds: &[Seed]) -> Resu
     Ok(())
 }
 
+/// The place that a seed names; None where the plan hasn't its task, or no data interval is that of its run.
 fn place_of(plan: &Plan, intervals: &[Interval], seed: &Seed) -> Option<Place>
     requires few { length intervals.now ≤ 4_096 }
     ensures { result ≡ place_in plan.now.dag intervals.now seed.now }
@@ -85,7 +93,8 @@ fn place_of(plan: &Plan, intervals: &[Interval], seed: &Seed) -> Option<Place>
     })
 }
 
-/// The tasks in runs, or instances of them, that seeds name.
+/// The places that seeds name, tasks in runs or single instances, in order; a seed of an unknown task or run has
+/// none.
 pub fn places_of(
     alloc: Global,
     plan: &Plan,

@@ -14,7 +14,7 @@ pub struct Bytes {
 impl Bytes {
     ghost use Rattle.bf_device.specs.Bytes.{bytes_left};
 
-    /// Bytes that are all to be read.
+    /// A device that gives these bytes, of which none was read.
     pub fn new(bytes: Vec<u8>) -> Bytes
         ensures { bytes_left result ≡ bytes.items }
     {
@@ -32,6 +32,7 @@ impl Read for Bytes {
 
     ghost failures = { λ _. 0 };
 
+    /// Reads the next bytes into the front of `room`, as many as fit, and gives how many; it never halts.
     fn read(&mut self, room: &mut [u8]) -> Result<usize, Halt> {
         let count = room.len().min(self.bytes.len() - self.read);
         let to = self.read + count;

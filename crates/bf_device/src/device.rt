@@ -19,7 +19,7 @@ pub enum Halt {
 }
 
 impl Halt {
-    /// What an error of std is, be it of a reader, a writer or a file: all but an interruption are failures.
+    /// What an error of std is to a device: `Again` for an interruption, and else `Failed`.
     pub fn from_error(error: &io::Error) -> Halt
         ensures { (result ≡ Halt.Again) ↔ (error_kind error.now ≡ Interrupted) }
     {
@@ -38,7 +38,7 @@ pub struct Halts {
 }
 
 impl Halts {
-    /// Of a device that was not called yet.
+    /// The counts of a device that was not called yet.
     pub fn none() -> Halts
         ensures { result ≡ record { interrupted = 0; failed = 0 } }
     {
@@ -48,7 +48,7 @@ impl Halts {
         }
     }
 
-    /// Counts one more.
+    /// Counts one more interruption or failure; a counter at its greatest goes on at zero.
     pub fn count(&mut self, halt: Halt)
         ensures interrupted { WentOn (interrupted
             (Err halt)) self.old.interrupted self.new.interrupted }
@@ -70,7 +70,7 @@ pub trait Write {
 
     ghost failures: { Self → ℕ };
 
-    /// Writes the first of the bytes, and says how many.
+    /// Writes a first part of the bytes, and gives its length: zero of some bytes is a failure.
     fn write(&mut self, bytes: &[u8]) -> Result<usize, Halt>
         ensures bound { IfOk result (λ n. n ≤ length bytes.now) }
         ensures written { written self.new
@@ -90,7 +90,7 @@ pub trait Read {
 
     ghost failures: { Self → ℕ };
 
-    /// Reads the next bytes into the front of the room, and says how many.
+    /// Reads the next bytes into the front of `room`, and gives how many: zero for some room is the end.
     fn read(&mut self, room: &mut [u8]) -> Result<usize, Halt>
         ensures bound { IfOk result (λ n. n ≤ length room.new) }
         ensures bytes { ReadConsumes (left self.old) (left self.new) result room.new }

@@ -17,7 +17,8 @@ pub struct Halting<D: Drop> {
 }
 
 impl<D: Drop> Halting<D> {
-    /// A device that halts at some calls, and passes on to another at the others.
+    /// A device over `inner` that gives `halt` at `times` of its calls, from the call `first` on, counted from 0, and
+    /// at the others passes on at most one byte.
     pub fn new(inner: D, halt: Halt, first: u64, times: u64) -> Self
         ensures { result ≡ record {
           inner = inner;
@@ -38,7 +39,7 @@ impl<D: Drop> Halting<D> {
         }
     }
 
-    /// Gives the device back that was passed on to.
+    /// Gives the inner device back.
     pub fn into_inner(self) -> D
         ensures { result ≡ self.inner }
     {
@@ -61,6 +62,7 @@ impl<W: Write + Drop> Write for Halting<W> {
 
     ghost failures = { λ h. W.failures h.inner + h.halts.failed };
 
+    /// Halts at the calls that are to halt, and else writes at most one byte to the inner device.
     fn write(&mut self, bytes: &[u8]) -> Result<usize, Halt> {
         let call = self.calls;
         self.calls = self.calls.wrapping_add(1);
@@ -79,6 +81,7 @@ impl<R: Read + Drop> Read for Halting<R> {
 
     ghost failures = { λ h. R.failures h.inner + h.halts.failed };
 
+    /// Halts at the calls that are to halt, and else reads at most one byte off the inner device.
     fn read(&mut self, room: &mut [u8]) -> Result<usize, Halt> {
         let call = self.calls;
         self.calls = self.calls.wrapping_add(1);

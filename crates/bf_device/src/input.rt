@@ -13,7 +13,7 @@ pub struct Input<R: io::Read + Drop> {
 }
 
 impl<R: io::Read + Drop> Input<R> {
-    /// A device that passes on what a reader gives.
+    /// A device over a reader of std.
     pub fn new(inner: R) -> Self
         ensures { result.inner ≡ inner }
     {
@@ -39,6 +39,8 @@ impl<R: io::Read + Drop> Read for Input<R> {
 
     ghost failures = { λ i. failed_reads i };
 
+    /// Reads once from the inner reader into the front of `room`; an error is counted, as an interruption or a
+    /// failure.
     fn read(&mut self, room: &mut [u8]) -> Result<usize, Halt> {
         match self.inner.read(room) {
             Ok(count) => Ok(count),

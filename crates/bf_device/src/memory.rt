@@ -13,7 +13,7 @@ pub struct Memory {
 }
 
 impl Memory {
-    /// No bytes.
+    /// A device that nothing was written to.
     pub fn new(alloc: Global) -> Memory
         ensures { bytes_in result ≡ [] }
     {
@@ -48,6 +48,7 @@ impl Write for Memory {
 
     ghost failures = { λ m. refused_writes m };
 
+    /// Adds all of the bytes; where memory is wanting, it adds none and counts a failure.
     fn write(&mut self, bytes: &[u8]) -> Result<usize, Halt> {
         match self.bytes.extend_from_slice(bytes) {
             Ok(()) => Ok(bytes.len()),

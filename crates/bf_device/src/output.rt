@@ -13,7 +13,7 @@ pub struct Output<W: io::Write + Drop> {
 }
 
 impl<W: io::Write + Drop> Output<W> {
-    /// A device that passes on to a writer.
+    /// A device over a writer of std.
     pub fn new(inner: W) -> Self
         ensures { result.inner ≡ inner }
     {
@@ -41,6 +41,8 @@ impl<W: io::Write + Drop> Write for Output<W> {
 
     ghost failures = { λ o. failed_writes o };
 
+    /// Writes once to the inner writer; an error is counted, as an interruption or a failure, and so is to take
+    /// nothing.
     fn write(&mut self, bytes: &[u8]) -> Result<usize, Halt> {
         match self.inner.write(bytes) {
             Ok(count) => {

@@ -22,6 +22,7 @@ pub struct WriteFault {
     pub cause: Cause,
 }
 
+/// The fault of a device that halted after `sent` bytes of the text.
 fn halted_after(sent: usize) -> WriteFault
     ensures sent { result.sent ≡ sent }
     ensures cause { result.cause ≡ Cause.Io }
@@ -32,8 +33,8 @@ fn halted_after(sent: usize) -> WriteFault
     }
 }
 
-/// Writes the text, in whatever pieces the device takes. It gives up where a write fails or takes nothing, and at
-/// the 1,001st interruption.
+/// Writes the whole text, in as many calls as the device takes. It gives up where a write fails or takes nothing, and
+/// at the 1,001st interruption; the fault tells how many bytes went out.
 pub fn send<W: Write>(out: &mut W, text: &[u8]) -> Result<(), WriteFault>
     ensures ok { OnOk result (W.written out.new ≡ sent (W.written out.old) text.now) }
     ensures part { IfErr result (λ fault. (fault.sent ≤ length text.now)

@@ -27,7 +27,7 @@ pub struct Disk<'a, R> {
 }
 
 impl<'a, R: Files> Disk<'a, R> {
-    /// The files that a runtime reaches.
+    /// The files that a runtime reaches, of which none was opened or replaced.
     pub fn new(rt: &'a R) -> Self
         ensures { has_failed_on result ≡ false }
     {
@@ -48,6 +48,7 @@ impl From<io::Error> for SourceFault {
     ghost from_gives = { λ error fault. (error_kind error ≡ NoMemory → fault ≡ OutOfMemory)
         × (error_kind error ≢ NoMemory → fault ≡ CannotRead) };
 
+    /// The fault of a file by an error of std.
     fn from(error: io::Error) -> SourceFault {
         match error.kind() {
             ErrorKind::OutOfMemory => SourceFault::OutOfMemory,
@@ -61,6 +62,7 @@ impl<'a, R: Files> Source for Disk<'a, R> {
 
     ghost file = { λ _ _. None };
 
+    /// Opens a path's file for reading.
     fn open(&mut self, path: &str) -> Result<Input<R::File>, SourceFault> {
         Ok(Input::new(File::open(self.rt, path)?))
     }

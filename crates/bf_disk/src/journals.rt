@@ -34,11 +34,12 @@ pub trait Journals {
 
     type Device: Cuttable + Drop;
 
-    /// What a path's journal holds, where that is told: its bytes, which are none where there is no such file, or `None` where it
-    /// can't be opened.
+    /// What a path's journal holds, where that is told: its bytes, which are none where there is no such file, or
+    /// `None` where it can't be opened.
     ghost journal: { Self → List ℕ → Option (Option (List ℕ)) };
 
-    /// Opens a path's journal, or makes it. While it is open, no other backfill can open it.
+    /// Opens a path's journal, or makes it, and reads its bytes. While it is open, no other backfill can open it:
+    /// that gets `InUse`.
     fn open_journal(
         &self,
         alloc: Global,
@@ -47,6 +48,7 @@ pub trait Journals {
         ensures { IfSome (journal self.now path.now) (λ held. OpensJournal held result) };
 }
 
+/// What an error of std is to a journal: want of memory, or else `CannotRead`.
 fn fault_of(error: &io::Error) -> OpenFault {
     match error.kind() {
         ErrorKind::OutOfMemory => OpenFault::OutOfMemory,
@@ -54,7 +56,8 @@ fn fault_of(error: &io::Error) -> OpenFault {
     }
 }
 
-/// Opens a file that is written to behind its last byte, or makes it. A device or a pipe is none: it might be read for ever.
+/// Opens the file at a path, or makes it, to read it and to write at its end. An error for what is no regular file,
+/// as a device or a pipe, which might be read for ever.
 fn open_or_make_file<R: Files>(rt: &R, path: &str) -> io::Result<R::File> {
     let file = File::options()
         .read(true)
@@ -68,6 +71,7 @@ fn open_or_make_file<R: Files>(rt: &R, path: &str) -> io::Result<R::File> {
     }
 }
 
+/// Reads all bytes from a file's position to its end.
 fn read_bytes<F: Read>(alloc: Global, file: &mut F) -> io::Result<Vec<u8>> {
     let mut held = Vec::new(alloc);
     file.read_to_end(&mut held)?;
@@ -76,10 +80,13 @@ fn read_bytes<F: Read>(alloc: Global, file: &mut F) -> io::Result<Vec<u8>> {
 
 /// A file that can be locked: by one process at a time, until it is closed or the process ends.
 pub trait Lockable {
+    /// Locks the file for this process alone, without waiting; `InUse` where another has it.
     fn lock_for_one(&self) -> Result<(), OpenFault>;
 }
 
 impl Lockable for File {
+    /// Locks the file for this process alone, without waiting; `InUse` where another has it, `CannotRead` where it
+    /// can't be.
     fn lock_for_one(&self) -> Result<(), OpenFault> {
         match self.try_lock() {
             Ok(()) => Ok(()),
@@ -99,6 +106,8 @@ where
 
     ghost journal = { λ _ _. None };
 
+    /// Opens the file at a path, or makes it, locks it, and reads its bytes; `InUse` where another process has it
+    /// locked.
     fn open_journal(
         &self,
         alloc: Global,

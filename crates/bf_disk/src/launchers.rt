@@ -14,12 +14,12 @@ pub trait Launchers {
     /// Whether a path's program can be started, where that is told.
     ghost startable: { Self → List ℕ → Option Bool };
 
-    /// Whether a path's program can be started.
+    /// Whether the program at a path can be started. It is not started.
     fn can_start(&self, path: &str) -> bool
         ensures { IfSome (startable self.now path.now) (λ told. result ≡ told) };
 }
 
-/// Whether a regular file stands there that somebody may execute.
+/// Whether a regular file that somebody may execute is at a path; false where the system doesn't tell.
 fn is_program<R: Files>(rt: &R, path: &str) -> bool {
     match fs::metadata(rt, path) {
         Ok(there) => there.is_file() && there.permissions().mode() & 0o111 != 0,
@@ -27,12 +27,15 @@ fn is_program<R: Files>(rt: &R, path: &str) -> bool {
     }
 }
 
-/// A name without `/` is looked for in the folders of `PATH`, an empty one of which is the current folder. Where these can't be told, or memory is wanting, the system is left to look.
+/// A name without `/` is looked for in the folders of `PATH`, an empty one of which is the current folder. Where
+/// these can't be told, or memory is wanting, the system is left to look.
 impl<'a, R: Files + Env + Alloc> Launchers for Disk<'a, R> {
     ghost use Rattle.std.specs.Prelude.{None};
 
     ghost startable = { λ _ _. None };
 
+    /// Whether the program can be started: at a path, or, for a bare name, in a folder of `PATH`. True also where
+    /// `PATH` isn't set or memory is wanting. It is not started.
     fn can_start(&self, path: &str) -> bool {
         if path.is_empty() || path.contains('/') {
             return is_program(self.rt, path);

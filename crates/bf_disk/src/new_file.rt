@@ -11,7 +11,8 @@ use std::io::{ErrorKind, Write};
 use std::os::unix::fs::{OpenOptionsExt, PermissionsExt};
 use std::rt::Files;
 
-/// How many names are looked at for a new file. One that is taken is that of a backfill that writes its report, or was killed then.
+/// How many names are looked at for a new file. One that is taken is that of a backfill that writes its report, or
+/// was killed then.
 const MOST_NEW_FILES: u32 = 1_000;
 
 /// A file on the disk, and its name.
@@ -21,7 +22,8 @@ struct Made<F: Drop> {
     name: String,
 }
 
-/// A new file, which is made when something is written to it: so nothing is left where a backfill is killed while its tries run.
+/// A new file, which is made when something is written to it: so nothing is left where a backfill is killed while its
+/// tries run.
 #[derive(Drop)]
 pub struct NewFile<'a, R: Files> {
     rt: &'a R,
@@ -32,7 +34,8 @@ pub struct NewFile<'a, R: Files> {
     failed: bool,
 }
 
-/// The path whose file is replaced. Only a regular file is, and one that isn't there.
+/// The path of the file that is to be replaced, links followed; a path without a file is itself. `CannotReplace`
+/// where a folder or a device is there, or the system can't tell.
 fn target_of<R: Files>(rt: &R, alloc: Global, path: &str) -> Result<String, ReplaceFault> {
     let found = match fs::symlink_metadata(rt, path) {
         Ok(found) => found,
@@ -52,7 +55,7 @@ fn target_of<R: Files>(rt: &R, alloc: Global, path: &str) -> Result<String, Repl
     }
 }
 
-/// The permissions of a path's file, where there is one.
+/// The permissions of the file at the path `target`; None where there is no file.
 fn old_permissions<R: Files>(rt: &R, target: &str) -> Result<Option<Permissions>, ReplaceFault> {
     match fs::metadata(rt, target) {
         Ok(found) => Ok(Some(found.permissions())),
@@ -61,7 +64,8 @@ fn old_permissions<R: Files>(rt: &R, target: &str) -> Result<Option<Permissions>
     }
 }
 
-/// How a new file is made, so that at no moment more may read it than the old one.
+/// How a new file is opened: only where no file has its name, and from the start with the permissions of the old
+/// file, if there is one, so that at no moment more may read it.
 fn options_of(old: &Option<Permissions>) -> OpenOptions {
     let mut options = File::options();
     options.write(true).create_new(true);
@@ -71,8 +75,8 @@ fn options_of(old: &Option<Permissions>) -> OpenOptions {
     options
 }
 
-/// Gives a new file all permissions of the old one: when it was made, the system took some away. Where it can't, the new one is taken
-/// away.
+/// Gives a new file all permissions of the old one, of which the system took some away; nothing where there was no
+/// old one. Where that fails, the new file is removed.
 fn give_permissions<R: Files>(
     rt: &R,
     made: Made<R::File>,
@@ -90,7 +94,8 @@ fn give_permissions<R: Files>(
     }
 }
 
-/// Makes a file beside the one of a path, with its permissions, under a name that no file has.
+/// Makes a file beside the one at `target`, with that one's permissions, under the first name `.new1`, `.new2` ..
+/// that no file has; `CannotReplace` where 1,000 names are taken.
 fn make_beside<R: Files>(
     rt: &R,
     alloc: Global,
@@ -109,12 +114,14 @@ fn make_beside<R: Files>(
     Err(ReplaceFault::CannotReplace)
 }
 
+/// Removes a new file from the disk. Where that fails, nobody is told.
 fn remove_made<R: Files>(rt: &R, made: &Made<R::File>) {
     // Where it can't be taken away, nothing is left to say so on.
     let _ = fs::remove_file(rt, made.name.as_str());
 }
 
-/// Writes the first of the bytes to a file, and goes on after interruptions.
+/// Writes a first part of the bytes to a file, at least one where there is one, and gives its length. It goes on
+/// after up to 1,000 interruptions; to take nothing is a fault.
 fn write_some<F: Write>(file: &mut F, bytes: &[u8]) -> Result<usize, ReplaceFault>
     ensures bound { IfOk result (λ n. n ≤ length bytes.now) }
     ensures some { IfOk result (λ n. bytes.now ≢ [] → n ≢ 0) }
@@ -131,7 +138,7 @@ fn write_some<F: Write>(file: &mut F, bytes: &[u8]) -> Result<usize, ReplaceFaul
 }
 
 impl<'a, R: Files> NewFile<'a, R> {
-    /// Makes the file, if it isn't there yet.
+    /// Makes the new file on the disk, if it isn't there yet.
     fn make(&mut self) -> Result<(), ReplaceFault>
         ensures { self.new.failed ≡ self.old.failed }
     {
@@ -141,6 +148,7 @@ impl<'a, R: Files> NewFile<'a, R> {
         Ok(())
     }
 
+    /// Makes the new file if it isn't there yet, writes a first part of the bytes to it, and gives the part's length.
     fn write_made(&mut self, bytes: &[u8]) -> Result<usize, ReplaceFault>
         ensures bound { IfOk result (λ n. n ≤ length bytes.now) }
         ensures some { IfOk result (λ n. bytes.now ≢ [] → n ≢ 0) }
@@ -153,6 +161,7 @@ impl<'a, R: Files> NewFile<'a, R> {
         }
     }
 
+    /// Makes the new file if it isn't there yet, and syncs it to the disk.
     fn sync_made(&mut self) -> Result<(), ReplaceFault>
         ensures { self.new.failed ≡ self.old.failed }
     {
@@ -172,12 +181,14 @@ impl<'a, R: Files> Replacement for NewFile<'a, R> {
 
     ghost failed = { λ n. has_failed n };
 
+    /// Writes a first part of the bytes to the new file, which it makes at first, and notes a failure.
     fn write(&mut self, bytes: &[u8]) -> Result<usize, ReplaceFault> {
         let written = self.write_made(bytes);
         self.failed = self.failed || written.is_err();
         written
     }
 
+    /// Syncs the new file to the disk, and notes a failure.
     fn sync(&mut self) -> Result<(), ReplaceFault> {
         let synced = self.sync_made();
         self.failed = self.failed || synced.is_err();
@@ -185,7 +196,8 @@ impl<'a, R: Files> Replacement for NewFile<'a, R> {
     }
 }
 
-/// That a new file can be made beside the one of a path is tried, and nothing is left of that.
+/// Makes a new file beside the one at a path and removes it again, to see whether it can be made. Gives the path's
+/// target and the new file, to be made at its first write.
 fn try_begin<'a, R: Files>(
     rt: &'a R,
     alloc: Global,
@@ -207,7 +219,8 @@ fn try_begin<'a, R: Files>(
     Ok((Target { path, file }, new))
 }
 
-/// Renames a new file. Where it can't be, it is taken away.
+/// Renames a new file to the path `file` that it replaces; `CannotReplace` where it was never made. Where the rename
+/// fails, the new file is removed.
 fn rename_made<R: Files>(new: &NewFile<'_, R>, file: &str) -> Result<(), ReplaceFault> {
     let Some(made) = &new.made else {
         return Err(ReplaceFault::CannotReplace);
@@ -233,6 +246,8 @@ impl<'a, R: Files> Folder for Disk<'a, R> {
 
     ghost failed = { λ d. has_failed_on d };
 
+    /// Sees whether a file beside the one at a path can be made, by making and removing one, and remembers the path
+    /// for `rename`. A failure is noted.
     fn begin_replacement(
         &mut self,
         alloc: Global,
@@ -250,6 +265,8 @@ impl<'a, R: Files> Folder for Disk<'a, R> {
         }
     }
 
+    /// Renames the new file to the target of the path last begun, and notes a failure; `CannotReplace` where none was
+    /// begun.
     fn rename(&mut self, new: NewFile<'a, R>) -> Result<(), ReplaceFault> {
         let renamed = match &self.target {
             Some(target) => rename_made(&new, target.file.as_str()),
@@ -259,6 +276,7 @@ impl<'a, R: Files> Folder for Disk<'a, R> {
         renamed
     }
 
+    /// Removes the new file from the disk, if it was made.
     fn discard(&mut self, new: NewFile<'a, R>) {
         if let Some(made) = &new.made {
             remove_made(self.rt, made);

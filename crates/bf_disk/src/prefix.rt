@@ -10,7 +10,8 @@ use std::alloc::Global;
 /// How many bytes one read may give.
 const CHUNK: usize = 8_192;
 
-/// The first `count` bytes of a path's file, or all of them where it has fewer.
+/// Reads the first `count` bytes of the file at a path of `files`, or all of them where it has fewer; `CannotRead`
+/// where it can't be opened or read.
 pub fn read_first_bytes<S: Source>(
     alloc: Global,
     path: &str,
@@ -25,7 +26,8 @@ pub fn read_first_bytes<S: Source>(
     read_front(alloc, &mut device, count)
 }
 
-/// Reads up to `count` bytes, in whatever pieces a device gives. It gives up where a read fails, and at the 1,001st interruption.
+/// Reads up to `count` bytes off a device, in as many reads as it takes; fewer only at its end. It gives up with
+/// `CannotRead` where a read fails, and at the 1,001st interruption.
 fn read_front<R: Read>(alloc: Global, device: &mut R, count: usize) -> Result<Vec<u8>, SourceFault>
     ensures bound { IfOk result (λ bytes. vec_len bytes ≤ count) }
     ensures first { IfOk result (λ bytes.

@@ -31,7 +31,8 @@ pub trait Source {
     /// What a path's file holds, where the source tells it: its bytes, or `None` where it can't be read.
     ghost file: { Self → List ℕ → Option (Option (List ℕ)) };
 
-    /// Opens a path's file. Its device has all bytes of the file before it, and where the source tells them it never halts.
+    /// Opens a path's file, `CannotRead` where it can't be. Its device has all bytes of the file before it, and where
+    /// the source tells them it never halts.
     fn open(&mut self, path: &str) -> Result<Self::Device, SourceFault>
         ensures opens { IfSome (file self.old path.now) (λ held.
             Opens Self.Device.left held result) }

@@ -75,14 +75,14 @@ decidable_alike dag r s k t alike able = record {
   run_is_open = sym alike.phase ∙ able.run_is_open;
   is_task = able.is_task;
   undecided = alike.cell able.undecided;
-  decides = decision_alike dag k (λ u. seen_in (cell_at r k u)) (λ u. seen_in (cell_at s k u)) (before_in r k t) (before_in s k t) t alike.rules.ruling alike.rules.source alike.past able.decides;
+  decides = decision_alike dag k (λ u. seen_in (cell_at r k u)) (λ u. seen_in (cell_at s k u)) (before_in r k t) (before_in s k t) t alike.rules.upstream_verdict_of alike.rules.source alike.past able.decides;
 }
 
 -- where it does, the task goes on to its expansion or doesn't as before
 pub goes_on_alike : (dag : Dag) (r s : State) (k t : ℕ) → LooksAlike dag r s k t → goes_on_in dag r k t ≡ goes_on_in dag s k t
 unfolding goes_on_in
 goes_on_alike dag r s k t alike =
-    ap (λ v. is_some (task_of dag t).expand && is_run v) (gate_alike dag k (λ u. seen_in (cell_at r k u)) (λ u. seen_in (cell_at s k u)) (before_in r k t) (before_in s k t) t alike.rules.ruling alike.past)
+    ap (λ v. is_some (task_of dag t).expand && is_run v) (gate_alike dag k (λ u. seen_in (cell_at r k u)) (λ u. seen_in (cell_at s k u)) (before_in r k t) (before_in s k t) t alike.rules.upstream_verdict_of alike.past)
 
 -- ---- what an event changes
 

@@ -73,7 +73,7 @@ impl Model for Agenda {
 }
 
 impl Agenda {
-    /// The empty agenda.
+    /// An agenda without steps.
     pub fn new(alloc: Global) -> Agenda
         ensures { result.items ≡ [] }
     {
@@ -91,7 +91,7 @@ impl Agenda {
         Ok(())
     }
 
-    /// The first step.
+    /// The first step, if there is one.
     pub fn first(&self) -> Option<Step>
         ensures top { result ≡ slice_get self.now.items 0 }
         ensures some { IfSome result (λ x. Contains self.now.items x) }
@@ -120,7 +120,7 @@ impl Agenda {
         }
     }
 
-    /// Takes the first step out.
+    /// Takes the first step out; None where there is none.
     pub fn take_first(&mut self) -> Option<Step>
         ensures top { result ≡ slice_get self.old.items 0 }
         ensures kept { IfSome result (λ x. (y : Step) → Contains self.old.items y → (y ≡ x)

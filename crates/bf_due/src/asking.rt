@@ -17,6 +17,7 @@ use crate::cursors::Cursors;
 use crate::news::{News, rule_looks_for};
 use bf_core::{Core, Event};
 
+/// Whether an event decides a task by its expansion.
 fn is_expansion(event: &Event) -> bool
     ensures { (expands : Bool) (run task : ℕ) → event.now ≡ deciding expands run task → result
         ≡ expands }
@@ -24,7 +25,7 @@ fn is_expansion(event: &Event) -> bool
     matches!(event, Event::Expand { .. })
 }
 
-/// Whether a task that may be decided now goes on to its expansion.
+/// Whether a task that may be decided in a run now is decided by its expansion; None where it can't be decided now.
 fn decides_by_expansion(core: &Core<'_>, run: u32, task: u32) -> Option<bool>
     ensures some { IfSome result (λ expands. MayCome core.now (deciding expands run task)) }
     ensures none { IfNone result (¬ (IsDecidable core.now.dag core.now.state run task)) }
@@ -33,17 +34,17 @@ fn decides_by_expansion(core: &Core<'_>, run: u32, task: u32) -> Option<bool>
     Some(is_expansion(&event))
 }
 
-/// Whether a task may be decided: by its expansion, or without.
+/// Whether a task may be decided in a run now: by its expansion where `expands`, and else without one.
 pub fn may_decide(core: &Core<'_>, run: u32, task: u32, expands: bool) -> bool
     ensures { IsTrue result ↔ MayCome core.now (deciding expands run task) }
 {
     match decides_by_expansion(core, run, task) {
-        Some(decides_by_expansion) => decides_by_expansion == expands,
+        Some(goes_on) => goes_on == expands,
         None => false,
     }
 }
 
-/// Whether a step may come.
+/// Whether a step's event may come to the core now.
 fn may_come(core: &Core<'_>, step: Step) -> bool
     ensures { IsTrue result ↔ MayCome core.now (event_of step) }
 {
@@ -55,7 +56,7 @@ fn may_come(core: &Core<'_>, step: Step) -> bool
     }
 }
 
-/// The step that decides a task, where it may be decided now.
+/// The step that decides a task in a run; nothing where it can't be decided now.
 fn decision_step(core: &Core<'_>, run: u32, task: u32) -> Option<Step>
     requires { task < length core.now.dag.tasks }
     ensures due { IfSome result (IsDueStep core.now) }
@@ -105,7 +106,8 @@ pub(crate) fn add_open(agenda: &mut Agenda, core: &Core<'_>)
     }
 }
 
-/// Adds the step that decides a task, where it may be decided now. The core is asked once no upstream is awaited.
+/// Adds the step that decides a task in a run, where it may be decided now. `row` has the cursors of the run; the
+/// core is asked only once no upstream is awaited.
 fn add_decision_if_unawaited(
     agenda: &mut Agenda,
     row: &mut Cursors,
@@ -125,7 +127,8 @@ fn add_decision_if_unawaited(
     }
 }
 
-/// Whether a task below another looks at more of it than at how its instances finish.
+/// Whether a task looks at more of its upstream than how the upstream's instances finish: its rule waits until the
+/// upstream is settled, it is expanded, or the upstream is a branch.
 fn looks_beyond(core: &Core<'_>, upstream: u32, task: u32) -> bool
     requires { task < length core.now.dag.tasks }
     ensures { result ≡ looks_beyond_in core.now.dag upstream task }
@@ -135,7 +138,8 @@ fn looks_beyond(core: &Core<'_>, upstream: u32, task: u32) -> bool
     task.rule.waits_until_settled() || task.expand.is_some() || dag.is_branch(upstream)
 }
 
-/// Whether a task doesn't wait for its previous run.
+/// Whether a task needn't wait for the run before: it doesn't depend on its past, this is the first run, or it is
+/// settled in the run before.
 fn is_past_known(core: &Core<'_>, run: u32, task: u32) -> bool
     requires { task < length core.now.dag.tasks }
     ensures { result ≡ is_past_known_in core.now.dag core.now.state run task }
@@ -146,7 +150,8 @@ fn is_past_known(core: &Core<'_>, run: u32, task: u32) -> bool
     core.is_settled(run - 1, task)
 }
 
-/// Whether news may let a task be decided that is below theirs.
+/// False only where the news can't let `task`, which is directly below the task of the news, be decided. Notes how
+/// far it looked in `row`, the cursors of the run of the news.
 fn may_let_be_decided(row: &mut Cursors, core: &Core<'_>, news: News, task: u32) -> bool
     requires { task < length core.now.dag.tasks }
     ensures matters { IsNoted core.now news.run row.old → result ≡ false
@@ -163,7 +168,8 @@ fn may_let_be_decided(row: &mut Cursors, core: &Core<'_>, news: News, task: u32)
     row.are_upstreams_settled(core, news.run, task)
 }
 
-/// Adds the step that decides a task below the one of the news, where they matter to it and it may be decided now.
+/// Adds the step that decides `task`, directly below the task of the news, where the news matter to it and it may be
+/// decided now. `row` has the cursors of the run of the news.
 fn add_decision_by_news(
     agenda: &mut Agenda,
     row: &mut Cursors,
@@ -183,7 +189,8 @@ fn add_decision_by_news(
     }
 }
 
-/// Adds the steps that decide these tasks, to which the news matter, where they may be decided now.
+/// Adds the steps that decide those of these tasks, directly below the task of the news, to which the news matter and
+/// that may be decided now. `row` has the cursors of the run of the news.
 fn add_decisions_by_news(
     agenda: &mut Agenda,
     row: &mut Cursors,
@@ -205,7 +212,7 @@ fn add_decisions_by_news(
     }
 }
 
-/// Adds the steps that decide the tasks of a run, where they may be decided now.
+/// Adds the steps that decide the tasks of a run, where they may be decided now. `row` has the cursors of the run.
 fn add_decisions_of_run(agenda: &mut Agenda, row: &mut Cursors, core: &Core<'_>, run: u32)
     requires { length agenda.old.items + length core.now.dag.tasks ≤ agenda.old.room }
     ensures asks { Asks core.now run (IsBelow run (length core.now.dag.tasks)) row.old row.new
@@ -219,7 +226,8 @@ fn add_decisions_of_run(agenda: &mut Agenda, row: &mut Cursors, core: &Core<'_>,
     }
 }
 
-/// Adds the close of a run, where it may be closed now. The core is asked once each task is settled.
+/// Adds the close of a run, where it may be closed now. `row` has the cursors of the run; the core is asked only once
+/// each task is settled.
 fn add_close_if_settled(agenda: &mut Agenda, row: &mut Cursors, core: &Core<'_>, run: u32)
     requires { length agenda.old.items + 1 ≤ agenda.old.room }
     ensures asks { Asks core.now run (IsCloseOf run) row.old row.new agenda.old.items
@@ -232,7 +240,7 @@ fn add_close_if_settled(agenda: &mut Agenda, row: &mut Cursors, core: &Core<'_>,
     }
 }
 
-/// Adds the steps of a run that may come now.
+/// Adds the steps of a run that may come now: the decisions of its tasks, and its close. `row` has its cursors.
 pub(crate) fn add_steps_of_run(agenda: &mut Agenda, row: &mut Cursors, core: &Core<'_>, run: u32)
     requires { HasRoom core.now.dag agenda.old.items agenda.old.room }
     ensures { Asks core.now run (IsOfRun run) row.old row.new agenda.old.items agenda.new.items }
@@ -241,7 +249,7 @@ pub(crate) fn add_steps_of_run(agenda: &mut Agenda, row: &mut Cursors, core: &Co
     add_close_if_settled(agenda, row, core, run);
 }
 
-/// The tasks below a task.
+/// The tasks directly below a task.
 fn downstreams<'a>(core: &Core<'a>, task: u32) -> &'a [u32]
     requires { task < length core.now.dag.tasks }
     ensures rising { IsRisingListOf (IsUpstream (shape_of core.now.dag).upstreams task) result.now }
@@ -252,8 +260,8 @@ fn downstreams<'a>(core: &Core<'a>, task: u32) -> &'a [u32]
     core.plan().graph().downstreams(task)
 }
 
-/// Adds the steps of the tasks below the one of the news, to which they matter, and the close of its run, where they may
-/// come now.
+/// Adds what may come now of this: the decisions of the tasks directly below the task of the news, to which the news
+/// matter, and the close of its run. `row` has the cursors of the run.
 fn add_steps_below(agenda: &mut Agenda, row: &mut Cursors, core: &Core<'_>, news: News)
     requires task { news.task < length core.now.dag.tasks }
     requires room { HasRoom core.now.dag agenda.old.items agenda.old.room }
@@ -267,7 +275,8 @@ fn add_steps_below(agenda: &mut Agenda, row: &mut Cursors, core: &Core<'_>, news
     add_close_if_settled(agenda, row, core, news.run);
 }
 
-/// Adds the step that decides a task in a run, where there is such a run and it may be decided now.
+/// Adds the step that decides a task in a run, where there is such a run and the task may be decided now. `rows` has
+/// the cursors of each run.
 fn add_decision_if_there(
     agenda: &mut Agenda,
     rows: &mut Vec<Cursors>,
@@ -287,7 +296,7 @@ fn add_decision_if_there(
     }
 }
 
-/// Adds the steps of a run that may come now, where there is such a run.
+/// Adds the steps of a run that may come now, where there is such a run. `rows` has the cursors of each run.
 fn add_steps_of_opened(agenda: &mut Agenda, rows: &mut Vec<Cursors>, core: &Core<'_>, run: u32)
     requires rows { length core.now.state.runs ≤ length rows.old.items }
     requires room { HasRoom core.now.dag agenda.old.items agenda.old.room }
@@ -300,8 +309,8 @@ fn add_steps_of_opened(agenda: &mut Agenda, rows: &mut Vec<Cursors>, core: &Core
     }
 }
 
-/// Adds the steps that news may have made possible: those of the tasks below theirs, the close of its run, and, once it
-/// is settled, that of the same task in the next run.
+/// Adds the steps that news of a task may have made possible: those of the tasks directly below, the close of the run
+/// and, once the task is settled, that of the task in the next run. `rows` has the cursors of each run.
 fn add_steps_around(agenda: &mut Agenda, rows: &mut Vec<Cursors>, core: &Core<'_>, news: News)
     requires there { IsThere core.now.dag core.now.state news.run news.task }
     requires rows { length core.now.state.runs ≤ length rows.old.items }
@@ -317,14 +326,15 @@ fn add_steps_around(agenda: &mut Agenda, rows: &mut Vec<Cursors>, core: &Core<'_
     }
 }
 
-/// The run that was opened last, or the first while none is.
+/// The run that was opened last, by its number from 0; 0 while none is opened.
 fn newest_run(core: &Core<'_>) -> u32
     ensures { result ≡ newest core.now.state }
 {
     core.opened_runs().saturating_sub(1)
 }
 
-/// Adds the steps that an event may have made possible.
+/// Adds the steps that may come now and that an event, which has come, may have made possible. `rows` has the cursors
+/// of each run.
 pub(crate) fn add_steps_after(
     agenda: &mut Agenda,
     rows: &mut Vec<Cursors>,
@@ -348,7 +358,7 @@ pub(crate) fn add_steps_after(
     }
 }
 
-/// Takes out the first steps while they may not come.
+/// Drops the first step until one is first that may come now, or none is left.
 pub(crate) fn drop_outdated_steps(agenda: &mut Agenda, core: &Core<'_>)
     ensures { IsPruned core.now agenda.old.items agenda.new.items }
 {

@@ -26,6 +26,7 @@ pub struct Cursors {
     pub settled: u32,
 }
 
+/// The number at the place `at`, from 0; 0 where there is no such place.
 fn number_at(numbers: &[u32], at: u32) -> u32
     ensures { result ≡ slice_index numbers.now at }
 {
@@ -35,13 +36,15 @@ fn number_at(numbers: &[u32], at: u32) -> u32
     }
 }
 
+/// Whether the last try of an instance has ended.
 fn is_finished(phase: &Phase) -> bool
     ensures { IsTrue result ↔ IsFinished phase.now }
 {
     matches!(phase, Phase::Finished(_))
 }
 
-/// The place of the first instance from a place on that hasn't finished, or how many there are.
+/// The place, from 0, of the first instance that hasn't finished, of those from the place `from` on; where all of
+/// these have, the number of instances.
 fn first_unfinished(instances: &[Instance], from: usize) -> usize
     ensures finished { AreFinished (Cell.Ran instances.now) from
         → AreFinished (Cell.Ran instances.now) result }
@@ -57,7 +60,7 @@ fn first_unfinished(instances: &[Instance], from: usize) -> usize
     instances.len()
 }
 
-/// The instances of a task in a run, once it has some.
+/// The instances of a task in a run, by map index; None where it has none, as before it is decided.
 fn instances_of<'c>(core: &'c Core<'_>, run: u32, task: u32) -> Option<&'c [Instance]>
     ensures some { IfSome result (λ xs. cell_at core.now.state run task ≡ Cell.Ran xs.now) }
     ensures few { IfSome result (λ xs. length xs.now ≤ 1_024) }
@@ -68,7 +71,7 @@ fn instances_of<'c>(core: &'c Core<'_>, run: u32, task: u32) -> Option<&'c [Inst
     }
 }
 
-/// The upstreams of a task.
+/// The upstreams of a task by its number.
 fn upstreams_of<'a>(core: &Core<'a>, task: u32) -> &'a [u32]
     requires { task < length core.now.dag.tasks }
     ensures upstreams { result.now ≡ (task_of core.now.dag task).upstreams }
@@ -77,7 +80,7 @@ fn upstreams_of<'a>(core: &Core<'a>, task: u32) -> &'a [u32]
     core.plan().dag().task(task).upstreams.as_slice()
 }
 
-/// Whether a task need not wait for all of its upstreams.
+/// Whether a task may be decided before all its upstreams are settled, by its rule.
 fn has_early_rule(core: &Core<'_>, task: u32) -> bool
     requires { task < length core.now.dag.tasks }
     ensures { result ≡ has_early_rule_in core.now.dag task }
@@ -86,7 +89,8 @@ fn has_early_rule(core: &Core<'_>, task: u32) -> bool
 }
 
 impl Cursors {
-    /// Nothing is known, and nothing noted of a task. It takes no memory.
+    /// The cursors of a run of which nothing is known, and in which nothing can be noted of a task. They take no
+    /// memory.
     pub fn unknown(alloc: Global) -> Cursors
         ensures { (b : Backfill) (k : ℕ) → IsNoted b k result }
     {
@@ -98,7 +102,7 @@ impl Cursors {
         }
     }
 
-    /// Nothing is known of so many tasks.
+    /// The cursors of a run of so many tasks, of which nothing is known yet.
     pub fn new(alloc: Global, tasks: usize) -> Result<Cursors, OutOfMemory>
         ensures { IfOk result (λ row. (b : Backfill) (k : ℕ) → IsNoted b k row) }
     {
@@ -110,7 +114,7 @@ impl Cursors {
         })
     }
 
-    /// Notes that so many instances of a task have finished.
+    /// Notes that the first `finished` instances of a task have finished.
     fn note_finished(&mut self, task: u32, finished: u32)
         ensures reached { (b : Backfill) (k : ℕ) → IsNoted b k self.old
             → AreFinished (cell_at b.state k task) finished → IsNoted b k self.new }
@@ -121,7 +125,7 @@ impl Cursors {
         }
     }
 
-    /// Notes that so many upstreams of a task let it be decided.
+    /// Notes that the first `passed` upstreams of a task don't keep it from being decided.
     fn note_passed(&mut self, task: u32, passed: u32)
         ensures { (b : Backfill) (k : ℕ) → IsNoted b k self.old
             → ArePassed (has_early_rule_in b.dag task) b.dag b.state k task passed
@@ -132,7 +136,7 @@ impl Cursors {
         }
     }
 
-    /// Notes that so many upstreams of a task are settled.
+    /// Notes that the first `settled` upstreams of a task are settled.
     fn note_settled(&mut self, task: u32, settled: u32)
         ensures { (b : Backfill) (k : ℕ) → IsNoted b k self.old
             → ArePassed false b.dag b.state k task settled → IsNoted b k self.new }
@@ -142,7 +146,7 @@ impl Cursors {
         }
     }
 
-    /// Whether all of these instances of a task have finished.
+    /// Whether all these instances of a task have finished. Moves the task's cursor past the first ones that have.
     fn have_finished(&mut self, instances: &[Instance], task: u32) -> bool
         requires { length instances.now ≤ 1_024 }
         ensures finished { (b : Backfill) (k : ℕ) → IsNoted b k self.old → cell_at b.state k task
@@ -158,7 +162,7 @@ impl Cursors {
         instances.len() <= finished
     }
 
-    /// Whether a task is settled.
+    /// Whether a task is settled in a run. Moves the task's cursor past its first instances that have finished.
     pub fn is_settled(&mut self, core: &Core<'_>, run: u32, task: u32) -> bool
         ensures settled { IsNoted core.now run self.old → result
             ≡ is_some (value_in (cell_at core.now.state run task)) }
@@ -171,16 +175,17 @@ impl Cursors {
         }
     }
 
-    /// Whether nothing more of an upstream is waited for: it is settled, or need not be for who looks early.
+    /// Whether an upstream isn't waited for: it is settled, or a task with an early rule (`early`) needn't wait.
     fn lets_decide(&mut self, core: &Core<'_>, run: u32, upstream: u32, early: bool) -> bool
         ensures lets { IsNoted core.now run self.old → result
-            ≡ lets has_early_rule_in core.now.dag core.now.state run upstream }
+            ≡ lets early core.now.dag core.now.state run upstream }
         ensures reached { IsNoted core.now run self.old → IsNoted core.now run self.new }
     {
         self.is_settled(core, run, upstream) || (early && !core.plan().dag().is_branch(upstream))
     }
 
-    /// The place of the first upstream of a task, from a place on, that is waited for, or how many there are.
+    /// The place, from 0, of the first upstream that a task waits for, of those from the place `from` on; else how
+    /// many upstreams it has. `early` where its rule may decide before all of them are settled.
     fn first_awaited(
         &mut self,
         core: &Core<'_>,
@@ -191,11 +196,11 @@ impl Cursors {
     ) -> usize
         requires { task < length core.now.dag.tasks }
         ensures passed { IsNoted core.now run self.old
-            → ArePassed has_early_rule_in core.now.dag core.now.state run task from
-            → ArePassed has_early_rule_in core.now.dag core.now.state run task result }
+            → ArePassed early core.now.dag core.now.state run task from
+            → ArePassed early core.now.dag core.now.state run task result }
         ensures awaits { IsNoted core.now run self.old
             → result < length (task_of core.now.dag task).upstreams
-            → Awaits has_early_rule_in core.now.dag core.now.state run task result }
+            → Awaits early core.now.dag core.now.state run task result }
         ensures reached { IsNoted core.now run self.old → IsNoted core.now run self.new }
         ensures within { result ≤ length (task_of core.now.dag task).upstreams }
     {
@@ -208,7 +213,8 @@ impl Cursors {
         upstreams.len()
     }
 
-    /// Whether no upstream of a task keeps it from being decided.
+    /// False only where an upstream keeps a task from being decided in a run. Moves the task's cursor past its first
+    /// upstreams that don't.
     pub fn is_free_to_decide(&mut self, core: &Core<'_>, run: u32, task: u32) -> bool
         requires { task < length core.now.dag.tasks }
         ensures awaits { IsNoted core.now run self.old → result ≡ false
@@ -223,7 +229,8 @@ impl Cursors {
         upstreams.len() <= passed
     }
 
-    /// Whether each upstream of a task is settled.
+    /// False only where an upstream of a task isn't settled in a run. Moves the task's cursor past its first
+    /// upstreams that are.
     pub fn are_upstreams_settled(&mut self, core: &Core<'_>, run: u32, task: u32) -> bool
         requires { task < length core.now.dag.tasks }
         ensures unsettled { IsNoted core.now run self.old → result ≡ false
@@ -237,7 +244,8 @@ impl Cursors {
         upstreams.len() <= settled
     }
 
-    /// Whether each task is settled.
+    /// False only where a task isn't settled, and so the run may not be closed. Moves the run's cursor past its first
+    /// tasks that are settled.
     pub fn is_run_settled(&mut self, core: &Core<'_>, run: u32) -> bool
         ensures unsettled { IsNoted core.now run self.old → result ≡ false
             → ¬ (MayCome core.now (Event.Close run)) }

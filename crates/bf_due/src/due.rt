@@ -44,13 +44,14 @@ impl Model for Due {
     } };
 }
 
+/// Whether the core has such a run and the plan such a task.
 fn is_there(core: &Core<'_>, run: u32, task: u32) -> bool
     ensures { IsTrue result ↔ IsThere core.now.dag core.now.state run task }
 {
     run < core.run_count() && (task as usize) < core.plan().dag().tasks.len()
 }
 
-/// Whether the task that an event decides, or of which a try ends, is there.
+/// Whether the task that an event decides, or of which it ends a try, is there with its run; true for other events.
 fn speaks_of_task(core: &Core<'_>, event: &Event) -> bool
     ensures { IsTrue result ↔ SpeaksOfTask core.now.dag core.now.state event.now }
 {
@@ -61,14 +62,14 @@ fn speaks_of_task(core: &Core<'_>, event: &Event) -> bool
     }
 }
 
-/// A law: every task has a rank.
+/// A law: every task of a core's plan has a rank.
 fn tasks_have_ranks(core: &Core<'_>)
     ensures { Ranking (shape_of core.now.dag).upstreams }
 {
     core.plan().graph().tasks_have_ranks();
 }
 
-/// The steps of the runs that were opened.
+/// The agenda of all steps that may come now in the runs that were opened.
 fn steps_of_runs(alloc: Global, core: &Core<'_>) -> Result<Agenda, OutOfMemory>
     ensures { IfOk result (λ agenda. HasAdded core.now (IsOfRunBelow (next_run core.now.state)) []
         agenda.items) }
@@ -93,7 +94,7 @@ fn run_count(core: &Core<'_>) -> u32
     core.run_count()
 }
 
-/// Makes a row for each run.
+/// Adds rows in which nothing is known, until there is one for each of `runs` runs.
 fn make_rows(alloc: Global, rows: &mut Vec<Cursors>, runs: u32) -> Result<(), OutOfMemory>
     ensures reached { (b : Backfill) → AreNoted b rows.old.items → AreNoted b rows.new.items }
     ensures rows { OnOk result (runs ≤ length rows.new.items) }
@@ -104,7 +105,8 @@ fn make_rows(alloc: Global, rows: &mut Vec<Cursors>, runs: u32) -> Result<(), Ou
     Ok(())
 }
 
-/// The run of which an event opens, decides or settles something once it comes.
+/// The run that an event opens, or of which it decides a task or ends a try; None for other events. No clause says
+/// which.
 fn run_touched_by(core: &Core<'_>, event: &Event) -> Option<u32> {
     match event {
         Event::Open => Some(core.opened_runs()),
@@ -114,7 +116,8 @@ fn run_touched_by(core: &Core<'_>, event: &Event) -> Option<u32> {
     }
 }
 
-/// Sees to it that something can be noted of the tasks of a run.
+/// Makes the row of a run one in which something can be noted of each of `tasks` tasks, where it isn't yet; a run
+/// without a row is left out.
 fn prepare_row(
     alloc: Global,
     rows: &mut Vec<Cursors>,
@@ -131,7 +134,7 @@ fn prepare_row(
     Ok(())
 }
 
-/// Makes a row for each run, in which something can be noted of the run that an event speaks of.
+/// Makes a row for each run, and prepares that of the run that an event speaks of.
 fn make_rows_for(
     alloc: Global,
     rows: &mut Vec<Cursors>,
@@ -148,7 +151,7 @@ fn make_rows_for(
     }
 }
 
-/// Lets go of what was noted of a run that an event has closed.
+/// Drops what was noted of a run that an event has closed.
 fn forget_closed(alloc: Global, rows: &mut Vec<Cursors>, event: &Event)
     ensures { (b : Backfill) → AreNoted b rows.old.items → AreNoted b rows.new.items }
 {
@@ -200,8 +203,8 @@ impl Due {
         }
     }
 
-    /// The first step that may come by itself, by kind, and then by run, by rank and in the order of the file: of
-    /// whatever backfill it is kept for, just what a look at the whole of it finds.
+    /// The first step that may come by itself, by kind, and then by run, by rank and in the order of the file, as a
+    /// look at the whole backfill finds it; None where none may come.
     pub fn next_step(&self) -> Option<Event>
         ensures { (b : Backfill) → IsUpToDate b self.now → IsNextStep b result }
     {

@@ -16,7 +16,7 @@ pub struct News {
     pub counts: Counts,
 }
 
-/// What finishes by a decision: a task with instances has not.
+/// The state in which a decision to this cell finishes a task, counted once; none where it has instances.
 fn finished_counts_of_cell(cell: &Cell) -> Counts
     ensures { result ≡ heard_of_cell cell.now }
 {
@@ -30,7 +30,7 @@ fn finished_counts_of_cell(cell: &Cell) -> Counts
     counts
 }
 
-/// What finishes by the end of a try: an instance whose try is made again has not.
+/// The state in which a try that ends in this phase finishes its instance, counted once; none where it is retried.
 fn finished_counts_of_phase(phase: &Phase) -> Counts
     ensures { result ≡ finished_in phase.now }
 {
@@ -45,7 +45,8 @@ fn finished_counts_of_phase(phase: &Phase) -> Counts
 }
 
 impl News {
-    /// Of a task that was decided.
+    /// What the decision of a task in a run, which has come, has made finish: the task, or nothing where it got
+    /// instances.
     pub fn of_decision(core: &Core<'_>, run: u32, task: u32) -> News
         requires { IsThere core.now.dag core.now.state run task }
         ensures { result ≡ decided_at core.now.state run task }
@@ -57,7 +58,7 @@ impl News {
         News { run, task, counts }
     }
 
-    /// Of a task of which a try has ended.
+    /// What the end of a try, which has come, has made finish: its instance, or nothing where the try is made again.
     pub fn of_end(core: &Core<'_>, name: JobName) -> News
         ensures { result ≡ ended_at core.now.dag core.now.state name }
     {
@@ -73,7 +74,7 @@ impl News {
     }
 }
 
-/// Whether a rule looks for what these have, and not for nothing.
+/// Whether these counts meet a rule by what they have: it is met by them, and not by no instances.
 pub fn rule_looks_for(rule: Rule, counts: Counts) -> bool
     ensures { result ≡ rule_looks_for_in rule counts }
 {

@@ -32,6 +32,7 @@ impl<'a, R: TaskRunner> TaskRunner for ByWorkers<'a, R> {
 
     ghost may_give_up = { λ s n g. R.may_give_up s.runner.now n g };
 
+    /// Has the runner make the try. Where there is no answer the ticket comes back.
     fn run(&self, ticket: Ticket) -> Result<Done, (Ticket, RunnerFault)> {
         self.runner.run(ticket)
     }
@@ -40,6 +41,7 @@ impl<'a, R: TaskRunner> TaskRunner for ByWorkers<'a, R> {
 impl<'a, R> AnswerAtOnce for ByWorkers<'a, R> {
     ghost may_answer_at_once = { λ _ _ _ _. ⊥ };
 
+    /// The ticket again: no try is answered at once.
     fn answer_at_once(&self, ticket: Ticket) -> Result<Done, Ticket> {
         Err(ticket)
     }
@@ -52,6 +54,8 @@ impl<'a, K: KeptTries, R: TaskRunner> AnswerAtOnce for Keeping<'a, K, R> {
     ghost may_answer_at_once = { λ s n g raw. IsAnswer (K.kept s.kept.now)
         (R.may_answer s.runner.now) n g raw };
 
+    /// The answer by which a kept try ends as it did; the ticket again where no try of the name is kept that was
+    /// given the same, or memory is wanting.
     fn answer_at_once(&self, ticket: Ticket) -> Result<Done, Ticket> {
         match self.kept.answer(self.alloc, ticket.name(), ticket.given()) {
             Ok(Some(raw)) => Ok(ticket.answer(raw)),

@@ -43,7 +43,7 @@ impl<'s, K: Service> Model for Executor<'s, K> {
     ghost view = { λ e. e.lanes };
 }
 
-/// Shows the observer the event that came last.
+/// Shows the observer the event that came last, if one came.
 fn show_last_event<O: Observer>(scheduler: &Scheduler<'_>, observer: &mut O)
     ensures { ShowsLast O.shows observer.old observer.new scheduler.now.backfill }
 {
@@ -52,7 +52,8 @@ fn show_last_event<O: Observer>(scheduler: &Scheduler<'_>, observer: &mut O)
     }
 }
 
-/// Lets the clock of the backfill come to the present moment, where that is later than what it shows.
+/// Lets the clock of the backfill come to the present moment, at most `LAST_MOMENT`, where that is later than what it
+/// shows, and shows the observer the tick.
 fn tick_to_present<C: TimeSource, O: Observer>(
     scheduler: &mut Scheduler<'_>,
     watch: &mut Watch<C, O>,
@@ -69,7 +70,8 @@ fn tick_to_present<C: TimeSource, O: Observer>(
     Ok(())
 }
 
-/// Ends the try of an answer.
+/// Moves the clock to the present, ends the try of an answer, and shows the observer these events. `Stranger` where
+/// the try doesn't run, or was given something else.
 fn end_answered_try<C: TimeSource, O: Observer>(
     done: Done,
     scheduler: &mut Scheduler<'_>,
@@ -91,7 +93,7 @@ fn end_answered_try<C: TimeSource, O: Observer>(
     }
 }
 
-/// Ends a try that has begun, where it is answered at once; else its ticket comes back.
+/// Ends a try that has begun, where `desk` answers it at once, and gives None then; else its ticket comes back.
 fn end_at_once<D: AnswerAtOnce, O: Observer>(
     desk: &D,
     ticket: Ticket,
@@ -118,7 +120,7 @@ fn end_at_once<D: AnswerAtOnce, O: Observer>(
 }
 
 impl<'s, K: Service + Send + Sync + 's> Executor<'s, K> {
-    /// The executor over these lanes.
+    /// The executor of a backfill over these lanes.
     pub fn new(lanes: Lanes<'s, K>) -> Executor<'s, K>
         ensures { result ≡ lanes.entry }
     {
@@ -132,7 +134,8 @@ impl<'s, K: Service + Send + Sync + 's> Executor<'s, K> {
         self.lanes.len()
     }
 
-    /// Waits for an answer, until a moment where one is given.
+    /// Waits for an answer, and gives the place of its lane, from 0, too. None only where `until` is given, in
+    /// seconds since 1970, and the clock's last answer isn't before that.
     fn gather<W: Wait, C: TimeSource>(
         &mut self,
         rt: &W,
@@ -150,7 +153,8 @@ impl<'s, K: Service + Send + Sync + 's> Executor<'s, K> {
         }
     }
 
-    /// Waits for an answer, until a moment where one is given, and ends the try of the answer.
+    /// Waits for an answer and ends its try; nothing where `until` is given, in seconds since 1970, and comes first.
+    /// `Runner` where the runner gave the try up.
     #[tactic(auto, using(crate::proofs::Turning::gathered_in_step, bf_sched::proofs::Driving::same_driven, crate::proofs::Turning::halted_by, crate::proofs::Shown::still_shown))]
     fn wait_and_end_try<W: Wait, C: TimeSource, O: Observer>(
         &mut self,
@@ -180,10 +184,10 @@ impl<'s, K: Service + Send + Sync + 's> Executor<'s, K> {
         }
     }
 
-    /// One turn of the scheduling loop, in which the clock of the backfill catches up first: an event comes by itself, or a
-    /// try begins and ends by an answer at once, or begins and is submitted, or where nothing can come an answer is gathered and ends its try, unless the moment comes
-    /// before for which a try waits. False where the backfill has ended. After a halt only `close` may follow. The observer is
-    /// shown each event.
+    /// One turn of the scheduling loop, in which the clock of the backfill catches up first: an event comes by
+    /// itself, or a try begins and is answered at once or submitted to a worker, or where nothing can come an answer
+    /// is waited for and its try ends, unless the moment comes first for which a try waits. False where the backfill
+    /// has ended. After an error only `close` may follow. The observer is shown each event.
     pub fn turn<W: Wait, D: AnswerAtOnce, C: TimeSource, O: Observer>(
         &mut self,
         rt: &W,
@@ -234,8 +238,8 @@ impl<'s, K: Service + Send + Sync + 's> Executor<'s, K> {
         }
     }
 
-    /// Stops the workers and waits until each has ended. The four lists of each lane have the same tries then, in the same
-    /// order and with the same that was given to each. It takes no memory.
+    /// Stops the workers and waits until each has ended. What a lane submitted, took, sent and gathered are the same
+    /// tries then, in the same order and with the same given. It takes no memory.
     pub fn close<W: Wait + Threads>(self, rt: &W) -> Vec<Closed<K>>
         ensures { ClosesAll K.answers K.gives_up self.entry result.items }
     {

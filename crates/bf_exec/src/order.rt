@@ -16,6 +16,7 @@ pub(crate) struct Order<'p, 'r, N> {
 
 /// What the workers share. A trait, so that the scope of the threads sees one reference without a lifetime inside.
 pub(crate) trait Shared {
+    /// Where memory comes from.
     fn alloc(&self) -> Global;
 
     /// On which the scheduler sleeps while there is no answer.
@@ -31,10 +32,12 @@ pub(crate) struct Desk<'r, R> {
 }
 
 impl<'r, R> Shared for Desk<'r, R> {
+    /// Where memory comes from.
     fn alloc(&self) -> Global {
         self.alloc
     }
 
+    /// What the scheduler sleeps on while there is no answer.
     fn answered(&self) -> &Parker {
         &self.answered
     }
@@ -45,6 +48,7 @@ impl<'r, R: TaskRunner> TaskRunner for Desk<'r, R> {
 
     ghost may_give_up = { λ d n g. R.may_give_up d.runner.now n g };
 
+    /// Has the runner make the try. Where there is no answer the ticket comes back.
     fn run(&self, ticket: Ticket) -> Result<Done, (Ticket, RunnerFault)> {
         self.runner.run(ticket)
     }
@@ -53,6 +57,7 @@ impl<'r, R: TaskRunner> TaskRunner for Desk<'r, R> {
 impl<'r, R: AnswerAtOnce> AnswerAtOnce for Desk<'r, R> {
     ghost may_answer_at_once = { λ d n g r. R.may_answer_at_once d.runner.now n g r };
 
+    /// The runner's answer, where it answers the try at once; else the ticket again.
     fn answer_at_once(&self, ticket: Ticket) -> Result<Done, Ticket> {
         self.runner.answer_at_once(ticket)
     }

@@ -35,7 +35,7 @@ use std::sync::Wait;
 use std::thread;
 use std::thread::{Parker, Scope, Threads};
 
-/// Turns until the backfill has ended, or a turn halts.
+/// Turns until the backfill has ended, or a turn halts, with the fault of that.
 #[tactic(auto, using(bf_sched::proofs::Driving::same_driven, crate::proofs::Turning::left_by))]
 fn all_turns<
     's,
@@ -69,7 +69,8 @@ fn all_turns<
     unreachable!()
 }
 
-/// Drives a backfill to its end.
+/// Drives a backfill from its start to its end, by turns of the executor; a fault where one of them halts. Leaves the
+/// lanes open.
 fn drive<'s, 'p, K, W, D, N, C, O>(
     rt: &W,
     desk: &D,
@@ -105,7 +106,7 @@ where
     }
 }
 
-/// The fault that a halt is, which is none by a stranger.
+/// The fault of a backfill of which a turn halted by `halt`. That isn't `Stranger`, which the closed lanes rule out.
 fn fault_of(halt: TurnFault) -> BackfillFault
     requires { halt ≢ TurnFault.Stranger }
     ensures { IsFaultOf halt result }
@@ -117,7 +118,8 @@ fn fault_of(halt: TurnFault) -> BackfillFault
     }
 }
 
-/// Starts the workers, drives the backfill, and joins the workers.
+/// Starts the workers in a scope of threads, drives the backfill, and joins the workers, after a fault too. `queues`
+/// and `seats` are those of each lane, in one order.
 #[tactic(auto, using(crate::proofs::Closing::may_fail))]
 fn run_in_scope<'s, 'p, K, E, W, D, N, C, O>(
     scope: &Scope<'s, E>,
@@ -157,7 +159,7 @@ where
     }
 }
 
-/// Runs an order by its workers, which share the desk.
+/// The end of the backfill that an order asks for, by its workers, which share the desk.
 fn run_order<'p, K, W, D, N, C, O>(
     rt: &W,
     desk: &D,
@@ -198,7 +200,7 @@ where
     ended
 }
 
-/// The end of a backfill as of `run_backfill`, but that a try which is answered at once is handed to no worker.
+/// The end of a backfill as `run_backfill` gives it, but that a try which is answered at once is handed to no worker.
 pub(crate) fn run_with_answers_at_once<
     'p,
     W: Threads + Wait + Sync,

@@ -15,7 +15,7 @@ use std::alloc::Global;
 use std::sync::Wait;
 use std::thread::{Scope, Threads};
 
-/// The queues of so many lanes, and their seats.
+/// The queues of a lane for each worker, and in the same order the seats of each lane.
 pub(crate) fn all_queues_and_seats<K: Service>(
     alloc: Global,
     workers: Workers,
@@ -35,7 +35,8 @@ pub(crate) fn all_queues_and_seats<K: Service>(
     Ok((queues, seats))
 }
 
-/// Starts a worker for each lane. Where one can't be started, those that were are stopped, and have ended.
+/// Starts a worker for each lane. Where one can't be started (`Start`) or memory is wanting, those that were are
+/// stopped, and have ended.
 pub(crate) fn start_lanes<'s, K, E, W, D>(
     scope: &Scope<'s, E>,
     rt: &'s W,

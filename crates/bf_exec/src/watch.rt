@@ -9,7 +9,7 @@ pub trait Observer {
     /// What it may become when it is shown an event, while so many tries run.
     ghost shows: { Self → Event → ℕ → Self → Type 0 };
 
-    /// This event has come to the backfill, and so many tries run now.
+    /// Is shown an event that has come to the backfill, and how many tries run now.
     fn on_event(&mut self, event: &Event, core: &Core<'_>, running: u32)
         ensures { shows self.old event.now running self.new };
 }
@@ -20,6 +20,7 @@ impl<O: Observer> Observer for Option<O> {
 
     ghost shows = { IsShownTo O.shows };
 
+    /// Shows the observer the event, if there is an observer.
     fn on_event(&mut self, event: &Event, core: &Core<'_>, running: u32) {
         if let Some(observer) = self {
             observer.on_event(event, core, running);
@@ -34,6 +35,7 @@ pub struct Silent;
 impl Observer for Silent {
     ghost shows = { λ _ _ _ _. Unit {0} };
 
+    /// Does nothing.
     fn on_event(&mut self, _event: &Event, _core: &Core<'_>, _running: u32) {}
 }
 

@@ -18,6 +18,7 @@ use std::alloc::Global;
 /// How many characters of a value stand in a sentence.
 const MOST_CHARACTERS: usize = 200;
 
+/// What an instance pushed, as JSON cut to 200 characters, also where it pushed nothing.
 fn pushed_text(alloc: Global, instance: &InstanceReport) -> Result<Text, OutOfMemory>
     ensures { IfOk result (λ text. text
         ≡ value_text_of 200 (pushed_by instance.now.result.outcome)) }
@@ -26,7 +27,8 @@ fn pushed_text(alloc: Global, instance: &InstanceReport) -> Result<Text, OutOfMe
     value_text(alloc, ended.outcome.pushed(), MOST_CHARACTERS)
 }
 
-/// What the first instance of a task pushed.
+/// What the first instance of a task pushed, as JSON cut to 200 characters, also where there is none or it pushed
+/// nothing.
 fn first_pushed_text(alloc: Global, told: Option<&TaskReport>) -> Result<Text, OutOfMemory>
     ensures { IfOk result (λ text. text
         ≡ value_text_of 200 (pushed_first (option_copied told.entry))) }
@@ -41,6 +43,8 @@ fn first_pushed_text(alloc: Global, told: Option<&TaskReport>) -> Result<Text, O
     }
 }
 
+/// What began at a task, as the words behind its id, as `failed` or `pushed [1]`. `told` is what the report has of
+/// the task.
 fn began_text(alloc: Global, began: Began, told: Option<&TaskReport>) -> Result<Text, OutOfMemory>
     ensures { IfOk result (λ text. text ≡ began_text_of began (option_copied told.entry)) }
 {
@@ -55,6 +59,7 @@ fn began_text(alloc: Global, began: Began, told: Option<&TaskReport>) -> Result<
     }
 }
 
+/// The text of the start of a run; empty where `run` is None.
 fn start_text(alloc: Global, run: Option<&RunReport>) -> Result<Text, OutOfMemory>
     ensures { IfOk result (λ text. text ≡ start_text_of (option_copied run.entry)) }
 {
@@ -67,7 +72,7 @@ fn start_text(alloc: Global, run: Option<&RunReport>) -> Result<Text, OutOfMemor
     }
 }
 
-/// Names another run.
+/// The words ` in the run of T` for the run `other`; empty where that is `run` itself.
 pub(crate) fn other_run_text(
     alloc: Global,
     report: &Report,
@@ -83,6 +88,7 @@ pub(crate) fn other_run_text(
     Ok(Text::new(format!(in alloc; " in the run of {start}")?))
 }
 
+/// The tasks of the run of this number, 0 for the first; none where there is no such run.
 fn tasks_at(report: &Report, run: u32) -> &[TaskReport]
     ensures { result.now ≡ tasks_in report.now run }
 {
@@ -92,6 +98,7 @@ fn tasks_at(report: &Report, run: u32) -> &[TaskReport]
     }
 }
 
+/// A root in words, as `load failed in the run of T`; its run is left out where it is `run`, the one explained.
 fn root_text(
     alloc: Global,
     plan: &Plan,
@@ -108,12 +115,14 @@ fn root_text(
     Ok(Text::new(format!(in alloc; "{id} {began}{there}")?))
 }
 
+/// Whether a task is one of these tasks.
 fn is_among(tasks: &[u32], task: u32) -> bool
     ensures { result ≡ list_any (λ other. other == task) tasks.now }
 {
     tasks.iter().any(|other| *other == task)
 }
 
+/// Whether a root is in another run than `run`, or isn't directly upstream of `task`.
 fn is_far_root(plan: &Plan, run: u32, task: u32, root: &Root) -> bool
     requires { task < length plan.now.dag.tasks }
     ensures { result ≡ is_far_root_in plan.now.dag run task root.now }
@@ -122,6 +131,7 @@ fn is_far_root(plan: &Plan, run: u32, task: u32, root: &Root) -> bool
     root.run != run || !is_among(upstreams, root.task)
 }
 
+/// Adds a root in words to `names`, where it is in another run than `run` or isn't directly upstream of `task`.
 fn add_far_root(
     alloc: Global,
     names: &mut Vec<Text>,
@@ -141,6 +151,7 @@ fn add_far_root(
     Ok(())
 }
 
+/// Those of these roots, in words, that are in another run than `run` or not directly upstream of `task`.
 fn far_root_names(
     alloc: Global,
     plan: &Plan,
@@ -160,6 +171,7 @@ fn far_root_names(
     Ok(names)
 }
 
+/// The one sentence `It began where ..` with these names; no sentence where there are no names.
 fn began_sentence(alloc: Global, names: &[Text]) -> Result<Vec<Text>, OutOfMemory>
     ensures { IfOk result (λ lines. lines.items ≡ began_sentence_of names.now) }
 {
@@ -173,7 +185,8 @@ fn began_sentence(alloc: Global, names: &[Text]) -> Result<Vec<Text>, OutOfMemor
     )
 }
 
-/// A sentence on the roots of a task in a run that are more than an edge away, where there are some.
+/// The one sentence on those of these roots of a task in `run` that are in another run or not directly upstream of
+/// it; no sentence where there are none.
 pub(crate) fn began_lines(
     alloc: Global,
     plan: &Plan,

@@ -16,6 +16,7 @@ use bf_wording::count_text;
 use bf_xcom::{Outcome, TaskResult};
 use std::alloc::Global;
 
+/// The word for how an instance ended: `success`, `failed` or `skipped`.
 pub(crate) fn outcome_word(outcome: &Outcome) -> &'static str
     ensures { result.now ≡ state_word outcome.now }
 {
@@ -26,7 +27,8 @@ pub(crate) fn outcome_word(outcome: &Outcome) -> &'static str
     }
 }
 
-/// Of an unmapped task, by its one result.
+/// The word for the state of a task that isn't expanded, by its one result. Contracts say nothing of no result or
+/// several.
 fn result_word(results: &[TaskResult]) -> &'static str
     ensures { (instance : InstanceReport) → results.now ≡ instance.result ∷ [] → result.now
         ≡ state_word instance.result.outcome }
@@ -37,6 +39,7 @@ fn result_word(results: &[TaskResult]) -> &'static str
     }
 }
 
+/// How many instances there are, and how many in each state, as `3 instances, 2 success, 1 failed`.
 fn instances_text(alloc: Global, instances: usize, counts: &Counts) -> Result<Text, OutOfMemory>
     ensures { IfOk result (λ text. text ≡ instances_text_of instances counts.now) }
 {
@@ -45,6 +48,7 @@ fn instances_text(alloc: Global, instances: usize, counts: &Counts) -> Result<Te
     Ok(Text::new(format!(in alloc; "{instances}, {counts}")?))
 }
 
+/// The state of a task, as `skipped`; of an expanded one that ran `3 instances, 2 success, 1 failed`.
 fn settled_state_text(alloc: Global, task: &Settled<'_>) -> Result<Text, OutOfMemory>
     ensures { IfOk result (λ text. text ≡ state_text_of (Some task.now)) }
 {
@@ -57,7 +61,8 @@ fn settled_state_text(alloc: Global, task: &Settled<'_>) -> Result<Text, OutOfMe
     }
 }
 
-/// The state of a task, and of an expanded one that ran how many instances are in each.
+/// The state of a task, as `skipped`, of an expanded one that ran `3 instances, 2 success, 1 failed`; `no_status`
+/// where `task` is None.
 pub(crate) fn state_text(alloc: Global, task: Option<&Settled<'_>>) -> Result<Text, OutOfMemory>
     ensures { IfOk result (λ text. text ≡ state_text_of (option_map (λ t. t.now) task.entry)) }
 {
@@ -67,6 +72,7 @@ pub(crate) fn state_text(alloc: Global, task: Option<&Settled<'_>>) -> Result<Te
     }
 }
 
+/// Adds so many spaces.
 fn push_spaces(text: &mut String, count: usize) -> Result<(), OutOfMemory>
     ensures { OnOk result (string_bytes text.new
         ≡ string_bytes text.old ++ repeat count (32 ∷ [])) }
@@ -77,6 +83,7 @@ fn push_spaces(text: &mut String, count: usize) -> Result<(), OutOfMemory>
     Ok(())
 }
 
+/// An id and spaces behind it, up to `width` bytes; a longer id isn't cut.
 pub(crate) fn padded(alloc: Global, id: &str, width: usize) -> Result<Text, OutOfMemory>
     ensures { IfOk result (λ text. text ≡ padded_of width id.now) }
 {
@@ -85,13 +92,14 @@ pub(crate) fn padded(alloc: Global, id: &str, width: usize) -> Result<Text, OutO
     Ok(Text::new(text))
 }
 
+/// The id of a task; empty where there is no such task.
 fn id_in(plan: &Plan, task: u32) -> &str
     ensures { result.now ≡ id_of plan.now.dag task }
 {
     id_at(plan.dag(), task)
 }
 
-/// How long the longest id is.
+/// How many bytes the longest id of these tasks has; 0 where there is none.
 fn id_width(plan: &Plan, tasks: &[u32]) -> usize
     ensures { result ≡ id_width_of plan.now.dag tasks.now }
 {
@@ -102,6 +110,8 @@ fn id_width(plan: &Plan, tasks: &[u32]) -> usize
     width
 }
 
+/// The line of a task, without a line feed: its id in a column of `width` bytes, and its state in the run, of which
+/// `settled` are the tasks.
 fn task_line(
     alloc: Global,
     plan: &Plan,
@@ -116,7 +126,8 @@ fn task_line(
     Ok(Text::new(format!(in alloc; "{id}  {state}")?))
 }
 
-/// A line for each of these tasks of a run, with its state.
+/// A line for each of these tasks, without a line feed: its id and its state in the run, of which `settled` are the
+/// tasks.
 pub(crate) fn task_lines(
     alloc: Global,
     plan: &Plan,

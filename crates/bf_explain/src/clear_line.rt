@@ -13,6 +13,7 @@ use bf_why::id_at;
 use bf_wording::{add_line, add_line_if};
 use std::alloc::Global;
 
+/// Whether a word begins with a hyphen, as options do.
 fn begins_with_hyphen(word: &str) -> bool
     ensures { result ≡ begins_with_hyphen_in word.now }
 {
@@ -22,7 +23,7 @@ fn begins_with_hyphen(word: &str) -> bool
     }
 }
 
-/// Adds an option and its word, in one where the word begins as an option does.
+/// Adds an option and its value as two words, or as one with `=` where the value begins with a hyphen.
 fn add_option(
     alloc: Global,
     words: &mut Vec<Text>,
@@ -39,6 +40,7 @@ fn add_option(
     add_line(alloc, words, word)
 }
 
+/// Adds the option `--zone-file` with its path; nothing where that is None.
 fn add_zone(
     alloc: Global,
     words: &mut Vec<Text>,
@@ -53,6 +55,7 @@ fn add_zone(
     Ok(())
 }
 
+/// Adds the paths of the graph and the report, with `--` before them where one begins with a hyphen.
 fn add_paths(alloc: Global, words: &mut Vec<Text>, paths: &Paths) -> Result<(), OutOfMemory>
     ensures { OnOk result (words.new.items ≡ words.old.items ++ path_words paths.now) }
 {
@@ -63,6 +66,7 @@ fn add_paths(alloc: Global, words: &mut Vec<Text>, paths: &Paths) -> Result<(), 
     add_line(alloc, words, report)
 }
 
+/// The start of a run, without its time where that is midnight in UTC; empty where `run` is None.
 fn short_start(alloc: Global, run: Option<&RunReport>) -> Result<Text, OutOfMemory>
     ensures { IfOk result (λ text. text ≡ short_start_of (option_copied run.entry)) }
 {
@@ -72,12 +76,16 @@ fn short_start(alloc: Global, run: Option<&RunReport>) -> Result<Text, OutOfMemo
     }
 }
 
+/// The start of the run of this number, without its time where that is midnight in UTC; empty where there is no such
+/// run.
 fn short_start_at(alloc: Global, report: &Report, run: usize) -> Result<Text, OutOfMemory>
     ensures { IfOk result (λ text. text ≡ short_start_in report.now run) }
 {
     short_start(alloc, report.runs.get(run))
 }
 
+/// Adds `--from` and `--to` with the starts of the report's first and last run; the values are empty where it has no
+/// runs.
 fn add_range(alloc: Global, words: &mut Vec<Text>, report: &Report) -> Result<(), OutOfMemory>
     ensures { OnOk result (words.new.items ≡ words.old.items ++ range_words report.now) }
 {
@@ -89,6 +97,7 @@ fn add_range(alloc: Global, words: &mut Vec<Text>, report: &Report) -> Result<()
     Ok(())
 }
 
+/// Adds `--task` and `--run` with the task and the run of a place; its map index is left out.
 fn add_seed(
     alloc: Global,
     words: &mut Vec<Text>,
@@ -105,6 +114,7 @@ fn add_seed(
     Ok(())
 }
 
+/// The words `backfill clear`.
 fn first_words(alloc: Global) -> Result<Vec<Text>, OutOfMemory>
     ensures { IfOk result (λ words. words.items ≡ codes "backfill" ∷ codes "clear" ∷ []) }
 {
@@ -114,6 +124,7 @@ fn first_words(alloc: Global) -> Result<Vec<Text>, OutOfMemory>
     Ok(words)
 }
 
+/// The words of the `clear` command that clears the task of this place in its run, over the files of `paths`.
 fn clear_words(
     alloc: Global,
     paths: &Paths,
@@ -132,6 +143,7 @@ fn clear_words(
     Ok(words)
 }
 
+/// The path of the new report: that of the report with `.new` behind it.
 fn new_report_path(alloc: Global, paths: &Paths) -> Result<Text, OutOfMemory>
     ensures { IfOk result (λ path. path ≡ paths.now.report ++ codes ".new") }
 {
@@ -139,7 +151,8 @@ fn new_report_path(alloc: Global, paths: &Paths) -> Result<Text, OutOfMemory>
     Ok(Text::new(format!(in alloc; "{report}.new")?))
 }
 
-/// The line that clears a task in a run, and puts the report that is printed into a file beside the report.
+/// The line for a shell, without a line feed, that clears the task of a place in its run, over the files of `paths`,
+/// and puts the new report into a file beside the old one.
 pub(crate) fn clear_line(
     alloc: Global,
     paths: &Paths,

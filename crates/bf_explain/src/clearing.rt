@@ -26,6 +26,7 @@ pub struct ClearedCount {
     pub runs: u64,
 }
 
+/// The place of all instances of a task in a run.
 fn place_at(run: u32, task: u32) -> Place
     ensures { result ≡ place_in run task }
 {
@@ -33,6 +34,7 @@ fn place_at(run: u32, task: u32) -> Place
     Place { run, task, index }
 }
 
+/// The run of the last of these places; `run` where there are no places.
 fn last_run(run: u32, places: &[Place]) -> u32
     ensures { result ≡ last_run_of run places.now }
 {
@@ -43,7 +45,8 @@ fn last_run(run: u32, places: &[Place]) -> u32
     last
 }
 
-/// What follows from a task in one of so many runs.
+/// How many tasks are cleared with this place, itself included, and over how many runs from its own to the last of
+/// them. The report has `runs` runs.
 fn count_cleared_with(
     alloc: Global,
     plan: &Plan,
@@ -61,7 +64,8 @@ fn count_cleared_with(
     })
 }
 
-/// Names another place than this one.
+/// The words ` ID` and, for another run, ` in the run of T`; empty where the place is the task explained, `task` in
+/// `run`.
 fn place_text(
     alloc: Global,
     plan: &Plan,
@@ -80,6 +84,8 @@ fn place_text(
     Ok(Text::new(format!(in alloc; " {id}{there}")?))
 }
 
+/// The heading over a line that clears: `place`, with a space before it or empty, and how many tasks in how many runs
+/// are cleared.
 fn clear_heading(alloc: Global, place: &Text, cleared: ClearedCount) -> Result<Text, OutOfMemory>
     ensures { IfOk result (λ text. text ≡ clear_heading_of place.now cleared) }
 {
@@ -89,6 +95,7 @@ fn clear_heading(alloc: Global, place: &Text, cleared: ClearedCount) -> Result<T
     Ok(Text::new(text))
 }
 
+/// Whether a run is of `single`: its data interval ends where it starts. True where `run` is None.
 fn is_of_single(run: Option<&RunReport>) -> bool
     ensures { result ≡ is_of_single_in (option_copied run.entry) }
 {
@@ -98,6 +105,8 @@ fn is_of_single(run: Option<&RunReport>) -> bool
     }
 }
 
+/// The heading and the line that clear a place; none where its run is of `single`. `task` in `run` is the one
+/// explained.
 fn clear_section(
     alloc: Global,
     paths: &Paths,
@@ -123,7 +132,7 @@ fn clear_section(
     Ok(lines)
 }
 
-/// A heading and a line for each of these places.
+/// A heading and the line that clears it for each of these places. `task` in `run` is the one explained.
 fn clear_sections(
     alloc: Global,
     paths: &Paths,
@@ -145,6 +154,7 @@ fn clear_sections(
     Ok(lines)
 }
 
+/// The places of the first three roots, or of all where there are fewer.
 fn root_places(alloc: Global, roots: &[Root]) -> Result<Vec<Place>, OutOfMemory>
     ensures { IfOk result (λ places. places.items ≡ root_places_of roots.now) }
 {
@@ -155,7 +165,8 @@ fn root_places(alloc: Global, roots: &[Root]) -> Result<Vec<Place>, OutOfMemory>
     Ok(places)
 }
 
-/// The first places where it began, or else the task itself.
+/// The places that clearing lines are given for: those of the first three roots, or the task itself where there are
+/// no roots.
 fn places_to_clear(
     alloc: Global,
     run: u32,
@@ -170,7 +181,7 @@ fn places_to_clear(
     }
 }
 
-/// For a task in a run the line that clears it, or of one that wasn't tried those that clear where it began.
+/// Headings and lines that clear the first three roots, or where there are none the task explained, `task` in `run`.
 pub(crate) fn clear_lines(
     alloc: Global,
     paths: &Paths,

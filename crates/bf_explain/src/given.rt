@@ -10,6 +10,7 @@ use std::alloc::Global;
 /// How many characters of a value stand in a line of its own.
 const MOST_CHARACTERS: usize = 4_096;
 
+/// Adds the line of an instance's item, as JSON cut to 4,096 characters; nothing where it has none.
 fn add_item(alloc: Global, lines: &mut Vec<Text>, item: Option<&Xval>) -> Result<(), OutOfMemory>
     ensures { OnOk result (lines.new.items ≡ lines.old.items
         ++ item_lines (option_copied item.entry)) }
@@ -21,6 +22,8 @@ fn add_item(alloc: Global, lines: &mut Vec<Text>, item: Option<&Xval>) -> Result
     add_moved_line(lines, Text::new(format!(in alloc; "item  {value}")?))
 }
 
+/// The line of a pull: the task pulled from, and the value as JSON cut to 4,096 characters, also where it pulled
+/// nothing.
 fn pull_line(alloc: Global, pull: &Pull) -> Result<Text, OutOfMemory>
     ensures { IfOk result (λ text. text ≡ pull_line_of pull.now) }
 {
@@ -29,6 +32,7 @@ fn pull_line(alloc: Global, pull: &Pull) -> Result<Text, OutOfMemory>
     Ok(Text::new(format!(in alloc; "pulled {task}  {value}")?))
 }
 
+/// Adds a line for each of these pulls.
 fn add_pulls(alloc: Global, lines: &mut Vec<Text>, pulls: &[Pull]) -> Result<(), OutOfMemory>
     ensures { OnOk result (lines.new.items ≡ lines.old.items ++ map pull_line_of pulls.now) }
 {
@@ -38,7 +42,8 @@ fn add_pulls(alloc: Global, lines: &mut Vec<Text>, pulls: &[Pull]) -> Result<(),
     Ok(())
 }
 
-/// A line for the item of an instance, where it has one, and one for each of its pulls.
+/// A line for the item of an instance, where it has one, and one for each of its pulls. Values are cut to 4,096
+/// characters.
 pub(crate) fn given_lines(
     alloc: Global,
     instance: &InstanceReport,
@@ -51,7 +56,7 @@ pub(crate) fn given_lines(
     Ok(lines)
 }
 
-/// A line for what an instance pushed, where it pushed something.
+/// The one line of what an instance pushed, as JSON cut to 4,096 characters; no line where it pushed nothing.
 pub(crate) fn pushed_lines(
     alloc: Global,
     instance: &InstanceReport,

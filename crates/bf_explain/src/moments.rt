@@ -9,6 +9,7 @@ use bf_value::{OutOfMemory, Text};
 use jiff::Timestamp;
 use std::alloc::Global;
 
+/// The text of a moment, without `T00:00:00Z` where it ends so.
 fn without_midnight(moment: &[u8]) -> &[u8]
     requires long { 10 ≤ length moment.now }
     requires ascii { IsAscii moment.now }
@@ -21,7 +22,7 @@ fn without_midnight(moment: &[u8]) -> &[u8]
     moment
 }
 
-/// The text of a moment, of which midnight in UTC is left out.
+/// The text of a moment, whose time is left out where it is midnight in UTC, as `2024-01-25`.
 pub(crate) fn short_moment(alloc: Global, moment: Timestamp) -> Result<Text, OutOfMemory>
     requires { IsShown moment.nanosecond }
     ensures { IfOk result (λ text. text ≡ short_moment_of moment.nanosecond) }

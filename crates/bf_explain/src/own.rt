@@ -12,7 +12,8 @@ use bf_report::{InstanceReport, TaskReport};
 use bf_value::{OutOfMemory, Text};
 use std::alloc::Global;
 
-/// The states of an expanded task as a whole.
+/// The map indexes of an expanded task's instances, a line for each state; no lines where the task isn't expanded or
+/// only its instance at `place` is explained.
 fn instances_lines(
     alloc: Global,
     told: &Settled<'_>,
@@ -26,6 +27,7 @@ fn instances_lines(
     }
 }
 
+/// The one line on what an instance pushed; no line where it pushed nothing or `instance` is None.
 fn optional_pushed_lines(
     alloc: Global,
     instance: Option<&InstanceReport>,
@@ -39,6 +41,7 @@ fn optional_pushed_lines(
     }
 }
 
+/// The lines on what an instance was given; no lines where it was given nothing or `instance` is None.
 fn optional_given_lines(
     alloc: Global,
     instance: Option<&InstanceReport>,
@@ -52,7 +55,8 @@ fn optional_given_lines(
     }
 }
 
-/// Adds what is told of a task alone, or of its instance in this place.
+/// Adds the sections on the states of a task's instances and on what the task, or its instance at `place`, pushed and
+/// was given; no section where it has no lines.
 pub(crate) fn add_own_sections(
     alloc: Global,
     lines: &mut Vec<Text>,

@@ -19,6 +19,7 @@ use bf_wording::one_line;
 use bf_xcom::{RunState, TaskValue};
 use std::alloc::{AllocError, Global};
 
+/// The word for the state of a run, `success` or `failed`.
 fn run_state_word(state: RunState) -> &'static str
     ensures { result.now ≡ run_state_word_of state }
 {
@@ -28,6 +29,7 @@ fn run_state_word(state: RunState) -> &'static str
     }
 }
 
+/// The first line on a run, without a line feed: its data interval and its state.
 fn run_heading(alloc: Global, run: &RunReport) -> Result<Text, OutOfMemory>
     ensures { IfOk result (λ text. text ≡ run_heading_of run.now) }
 {
@@ -37,6 +39,7 @@ fn run_heading(alloc: Global, run: &RunReport) -> Result<Text, OutOfMemory>
     Ok(Text::new(format!(in alloc; "run {start} to {end}: {state}")?))
 }
 
+/// The one line with how many instances of the tasks in `order` are in each state; no line where there are no tasks.
 fn counts_lines(
     alloc: Global,
     settled: &[Settled<'_>],
@@ -52,6 +55,7 @@ fn counts_lines(
     one_line(alloc, counts_text(alloc, &counts)?)
 }
 
+/// Those tasks of `order` that have a failed instance, in that order; upstream_failed doesn't count.
 fn failed_tasks(
     alloc: Global,
     settled: &[Settled<'_>],
@@ -70,6 +74,7 @@ fn failed_tasks(
         .collect(alloc)
 }
 
+/// Whether a task is upstream_failed or has no status; true where there is no such task.
 fn is_not_tried(settled: &[Settled<'_>], task: u32) -> bool
     ensures { result ≡ is_not_tried_in (value_among settled.now task) }
 {
@@ -79,6 +84,7 @@ fn is_not_tried(settled: &[Settled<'_>], task: u32) -> bool
     }
 }
 
+/// Those tasks of `order` that are upstream_failed or have no status, in that order.
 fn tasks_not_tried(
     alloc: Global,
     settled: &[Settled<'_>],
@@ -93,6 +99,7 @@ fn tasks_not_tried(
         .collect(alloc)
 }
 
+/// Adds the section on the tasks of a run that have a failed instance; nothing where there are none.
 fn add_failed(
     alloc: Global,
     lines: &mut Vec<Text>,
@@ -109,6 +116,7 @@ fn add_failed(
     add_section(alloc, lines, "failed", failed.as_slice())
 }
 
+/// Adds the section on the tasks of a run that are upstream_failed or have no status; nothing where there are none.
 fn add_not_tried(
     alloc: Global,
     lines: &mut Vec<Text>,
@@ -125,6 +133,7 @@ fn add_not_tried(
     add_section(alloc, lines, "not tried", left.as_slice())
 }
 
+/// The lines that explain a run, of which `settled` are the tasks, listed as in `order`. They have no line feeds.
 fn run_lines(
     alloc: Global,
     plan: &Plan,
@@ -146,8 +155,8 @@ fn run_lines(
     Ok(lines)
 }
 
-/// Why a run has its state, how many instances came to which, and which tasks failed or were not tried, in this order of the tasks. None
-/// of its tasks has more than 1,024 instances.
+/// The text that explains a run: why it has its state, how many instances are in which, and which tasks failed or
+/// weren't tried, listed as in `order`. None of its tasks has more than 1,024 instances.
 pub fn explain_run(
     alloc: Global,
     plan: &Plan,

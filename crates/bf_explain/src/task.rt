@@ -25,7 +25,8 @@ use bf_why::id_at;
 use bf_wording::{add_lines, one_line};
 use std::alloc::Global;
 
-/// The heading, and why.
+/// The heading on a task in a run, or on its instance at `place`, and the section on why it has its state. `told_run`
+/// is the run, `settled` its tasks and `told` the task; `roots` are where its state began.
 fn heading_and_why_lines(
     alloc: Global,
     plan: &Plan,
@@ -56,6 +57,8 @@ fn heading_and_why_lines(
     Ok(lines)
 }
 
+/// The lines that explain a task, or its instance of this map index, in a run, without line feeds. `told_run` is the
+/// run, `settled` its tasks and `told` the task.
 fn explanation_lines(
     alloc: Global,
     paths: &Paths,
@@ -102,9 +105,9 @@ fn explanation_lines(
     Ok(lines)
 }
 
-/// Why a task has its state in this run of a report, or its instance of a map index; what it was given; how its last try is run by hand;
-/// and the lines that clear it, or where it began, over the files of these paths. Each run has the tasks of the graph, and none of these
-/// more than 1,024 instances.
+/// The text that explains a task in a run, or its instance of this map index: why it has its state, what it was
+/// given, how its last try is run by hand, and how it is cleared over the files of `paths`. `told_run` is the run.
+/// Each run has the tasks of the graph, and none of these more than 1,024 instances.
 pub fn explain_task(
     alloc: Global,
     paths: &Paths,

@@ -17,6 +17,7 @@ use bf_why::why_lines;
 use bf_wording::add_lines;
 use std::alloc::Global;
 
+/// The run before `run` in a report; None before the first.
 fn run_before(report: &Report, run: u32) -> Option<&RunReport>
     ensures { option_copied result ≡ run_before_of report.now run }
 {
@@ -27,6 +28,7 @@ fn run_before(report: &Report, run: u32) -> Option<&RunReport>
     }
 }
 
+/// The tasks of a run; none where `run` is None.
 fn tasks_of(run: Option<&RunReport>) -> &[TaskReport]
     ensures { result.now ≡ tasks_in_run (option_copied run.entry) }
 {
@@ -36,7 +38,7 @@ fn tasks_of(run: Option<&RunReport>) -> &[TaskReport]
     }
 }
 
-/// The roots of a task that wasn't tried.
+/// The roots of the state of a task in a run; none where the report has it, as `told`, as one that ran.
 pub(crate) fn roots_if_untried(
     alloc: Global,
     plan: &Plan,
@@ -58,8 +60,8 @@ pub(crate) fn roots_if_untried(
     }
 }
 
-/// Why a task, which the report has so, has its state in the run of this number, or one of its instances; and of these roots those that
-/// are more than an edge away.
+/// Why a task, or its instance at `place`, has its state in a run, and which of these roots are in another run or not
+/// directly upstream, in sentences. `settled` are the tasks of the run and `told` is the task.
 pub(crate) fn why_and_where(
     alloc: Global,
     plan: &Plan,

@@ -15,7 +15,7 @@ pub enum Detail {
 }
 
 impl Detail {
-    /// The same detail.
+    /// A copy of the detail.
     pub fn copy(&self, alloc: Global) -> Result<Detail, OutOfMemory>
         ensures { IfOk result (λ detail. detail ≡ self.now) }
     {
@@ -28,7 +28,8 @@ impl Detail {
 
 /// A runner that knows more of a try than its raw answer says.
 pub trait DetailedRunner: TaskRunner {
-    /// Runs the try of a ticket, as `run` does, and hands out what is known beside its answer.
+    /// Runs the try of a ticket, as `run` does, and hands out what is known beside its answer; nothing is claimed of
+    /// this detail. Where there is no answer the ticket is handed back.
     fn run_in_detail(&self, ticket: Ticket) -> Result<(Done, Option<Detail>), (Ticket, RunnerFault)>
         ensures ok { IfOk result (λ d. (d.0.name ≡ ticket.name) × (d.0.given ≡ ticket.given)
             × Self.may_answer self.now d.0.name d.0.given d.0.raw) }

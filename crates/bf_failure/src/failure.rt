@@ -31,7 +31,9 @@ pub enum Failure {
 }
 
 impl Failure {
-    /// The same, with what is known beside the raw answer.
+    /// The failure with what is known beside the raw answer: the number of the signal that ended the program, or the
+    /// system's words for why it wasn't started. Unchanged where neither is wanting, or the detail is of the other
+    /// kind.
     pub fn with_detail(self, detail: Option<Detail>) -> Failure
         ensures { result ≡ detailed self detail }
     {

@@ -14,7 +14,7 @@ pub fn failed_tries_have_failures()
         IsSome (failure_of dag task raw) ↔ (grade_of dag task raw ≡ Outcome.Failed) }
 {}
 
-/// A law: what a failure says holds of the answer.
+/// A law: what the failure found in an answer says is true of the answer.
 pub fn failures_are_causes()
     ensures { (dag : Dag) (task : ℕ) (raw : Raw) (failure : Failure) →
         failure_of dag task raw ≡ Some failure → IsCause dag task raw failure }

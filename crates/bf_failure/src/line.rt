@@ -9,7 +9,8 @@ use bf_value::OutOfMemory;
 use bf_words::JobContext;
 use std::alloc::Global;
 
-/// The ending of the log that tells more.
+/// The ending of the log that tells more of a failure: `.err` for an exit status, a signal or a program that wasn't
+/// started, else `.out`.
 fn log_ending(failure: &Failure) -> &'static str
     ensures { result.now ≡ log_ending_of failure.now }
 {
@@ -19,6 +20,7 @@ fn log_ending(failure: &Failure) -> &'static str
     }
 }
 
+/// The words `, see PATH` for the log of a failed try below the folder `logs`; empty where no logs are kept.
 fn log_hint_text(
     alloc: Global,
     logs: Option<&str>,
@@ -36,7 +38,7 @@ fn log_hint_text(
     Ok(format!(in alloc; ", see {path}")?)
 }
 
-/// The name of a try, as `load 2024-02-14T00:00:00Z index 2 try 1`: the index of an instance of an expanded task.
+/// The name of a try, as `load 2024-02-14T00:00:00Z index 2 try 1`; without the index for an unmapped task.
 pub fn try_text(alloc: Global, context: &JobContext<'_>) -> Result<String, OutOfMemory>
     ensures { IfOk result (λ text. string_bytes text ≡ try_text_of context.now) }
 {
@@ -49,8 +51,8 @@ pub fn try_text(alloc: Global, context: &JobContext<'_>) -> Result<String, OutOf
     Ok(format!(in alloc; "{task} {run}{index} try {attempt}")?)
 }
 
-/// The line that is told of a failed try, as `failed: load 2024-02-14T00:00:00Z index 2 try 1: exit status 3, see PATH` with its
-/// line feed: the path below the folder of logs, where there is one.
+/// The line that is told of a failed try, with its line feed, as `failed: load 2024-02-14T00:00:00Z index 2 try 1:
+/// exit status 3, see PATH`; the path is below the folder `logs`, and without that there is none.
 pub fn failed_line(
     alloc: Global,
     logs: Option<&str>,

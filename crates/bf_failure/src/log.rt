@@ -6,7 +6,7 @@ use bf_value::OutOfMemory;
 use bf_words::JobContext;
 use std::alloc::Global;
 
-/// The index of an instance of an expanded task between these texts, or no text where there is no index.
+/// A map index between the texts `before` and `behind`; empty for the instance of an unmapped task.
 pub(crate) fn index_text(
     alloc: Global,
     before: &str,
@@ -21,8 +21,8 @@ pub(crate) fn index_text(
     Ok(format!(in alloc; "{before}{index}{behind}")?)
 }
 
-/// The path of a log of a try below the folder of logs, as `FOLDER/dag=ID/run=MOMENT/task=ID/try=N` behind which its ending
-/// stands, and of an instance of an expanded task `index=I,try=N`.
+/// The path of a log of a try below the folder of logs, as `FOLDER/dag=ID/run=MOMENT/task=ID/try=N.out` for the
+/// ending `.out`; of an instance of an expanded task the last part is `index=I,try=N.out`.
 pub fn log_path(
     alloc: Global,
     folder: &str,

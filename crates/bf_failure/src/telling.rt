@@ -50,7 +50,8 @@ impl<'a, R: DetailedRunner + Drop, T: Teller + Drop> Model for Telling<'a, R, T>
 }
 
 impl<'a, R: DetailedRunner + Drop, T: Teller + Drop> Telling<'a, R, T> {
-    /// A runner round a runner, for the runs of a plan, whose lines name the log below this folder, where there is one.
+    /// A runner round `runner`, for the runs of a plan, that tells `teller`, if there is one, of each failed try. Its
+    /// lines name the try's log below the folder `logs`, and none where no logs are kept.
     pub fn new(
         alloc: Global,
         plan: &'a Plan,
@@ -86,7 +87,8 @@ impl<'a, R: DetailedRunner + Drop, T: Teller + Drop> Telling<'a, R, T> {
         &self.runner
     }
 
-    /// Tells the line of a try that has failed. One of a task or a run that isn't there has none.
+    /// Tells the line of an answered try that has failed; nothing where it hasn't, or its task or run isn't there.
+    /// `detail` is what is known beside the answer. No clause says so.
     fn tell(&self, teller: &T, done: &Done, detail: Option<Detail>) -> Result<(), OutOfMemory>
         requires teller { self.now.teller ≡ Some teller.now }
         requires may { R.may_answer self.now.runner done.now.name done.now.given done.now.raw }
@@ -109,6 +111,7 @@ impl<'a, R: DetailedRunner + Drop, T: Teller + Drop> Telling<'a, R, T> {
     }
 }
 
+/// A copy of a detail, if there is one. Contracts say nothing of it.
 fn copy_detail(alloc: Global, detail: &Option<Detail>) -> Result<Option<Detail>, OutOfMemory> {
     match detail {
         Some(detail) => Ok(Some(detail.copy(alloc)?)),
@@ -121,6 +124,7 @@ impl<'a, R: DetailedRunner + Drop, T: Teller + Drop> TaskRunner for Telling<'a, 
 
     ghost may_give_up = { λ s n g. R.may_give_up s.runner n g };
 
+    /// Has the runner make the try, and tells its line where it fails.
     fn run(&self, ticket: Ticket) -> Result<Done, (Ticket, RunnerFault)> {
         let (done, _) = self.run_in_detail(ticket)?;
         Ok(done)
@@ -128,6 +132,7 @@ impl<'a, R: DetailedRunner + Drop, T: Teller + Drop> TaskRunner for Telling<'a, 
 }
 
 impl<'a, R: DetailedRunner + Drop, T: Teller + Drop> DetailedRunner for Telling<'a, R, T> {
+    /// Has the runner make the try, tells its line where it fails, and gives what the runner knows beside the answer.
     fn run_in_detail(
         &self,
         ticket: Ticket,

@@ -29,8 +29,8 @@ impl From<io::Error> for ReplaceFault {
     ghost use Rattle.std.specs.declared.io.ErrorKind.TheVariants.{OutOfMemory as NoMemory};
     ghost use Rattle.bf_file.specs.declared.fault.ReplaceFault.TheVariants.{CannotReplace, OutOfMemory};
 
-    ghost from_gives = { λ error fault. (error_kind error ≡ OutOfMemory → fault ≡ OutOfMemory)
-        × (error_kind error ≢ OutOfMemory → fault ≡ CannotReplace) };
+    ghost from_gives = { λ error fault. (error_kind error ≡ NoMemory → fault ≡ OutOfMemory)
+        × (error_kind error ≢ NoMemory → fault ≡ CannotReplace) };
 
     fn from(error: io::Error) -> ReplaceFault {
         match error.kind() {

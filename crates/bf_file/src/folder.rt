@@ -8,8 +8,9 @@ use crate::fault::ReplaceFault;
 use crate::replacement::Replacement;
 use std::alloc::Global;
 
-/// Where files are replaced, one after another. Contracts see which paths were given new files, and by which calls, where it tells
-/// them; for which path a new file was begun last; and whether a call of it failed, or one of a new file that it took away.
+/// Where files are replaced, one after another. Contracts see which paths were given new files, and by which calls,
+/// where it tells them; for which path a new file was begun last; and whether a call of it failed, or one of a new
+/// file that it took away.
 pub trait Folder {
     type New: Replacement + Drop;
 
@@ -19,7 +20,7 @@ pub trait Folder {
 
     ghost failed: { Self → Bool };
 
-    /// A new file beside the one of a path, under another name. Nothing stands in it.
+    /// Makes a new, empty file beside the one at a path, or gets ready to, and remembers the path for `rename`.
     fn begin_replacement(&mut self, alloc: Global, path: &str) -> Result<Self::New, ReplaceFault>
         ensures begun { OnOk result (begun self.new ≡ Some path.now) }
         ensures empty { IfOk result (λ new.
@@ -27,14 +28,14 @@ pub trait Folder {
         ensures same { placed self.new ≡ placed self.old }
         ensures failed { failed self.new ≡ failed_by (failed self.old) result };
 
-    /// Has a new file take the place of the one of the path that was begun, in one step.
+    /// Has a new file take the place of the one at the path last given to `begin_replacement`, in one step.
     fn rename(&mut self, new: Self::New) -> Result<(), ReplaceFault>
         ensures placed { OnOk result (placed self.new
             ≡ placed_with (placed self.old) (begun self.old) (Self.New.calls new)) }
         ensures same { OnErr result (placed self.new ≡ placed self.old) }
         ensures failed { failed self.new ≡ failed_by (failed self.old) result };
 
-    /// Takes a new file away that isn't wanted.
+    /// Removes a new file that isn't wanted. The file at the path stays.
     fn discard(&mut self, new: Self::New)
         ensures same { placed self.new ≡ placed self.old }
         ensures failed { failed self.new ≡ (Self.New.failed new || failed self.old) };

@@ -3,14 +3,15 @@ ghost use Rattle.std.specs.Prelude.{◌≡◌, ◌⊎◌, ℕ, List, Option, Som
 ghost use Rattle.bf_file.specs.declared.call.Call.{Call};
 ghost use Rattle.bf_file.specs.Replacing.{IsReplacing, MayHold, held_after};
 
-/// Where the machine fails while a file is replaced, behind whichever of the calls, the path holds what it held, or all of the new text.
+/// A law: where the machine fails while a file is replaced, after whichever of the calls, the path holds what it
+/// held, or all of the new text.
 pub fn a_path_holds_the_old_or_the_new()
     ensures { (text : List ℕ) (calls : List Call) → IsReplacing text calls
         → (held now : Option (List ℕ)) (n : ℕ) → MayHold held (take n calls) now
         → (now ≡ held) ⊎ (now ≡ Some text) }
 {}
 
-/// Where the machine goes on, the path holds the new text behind the last of the calls.
+/// A law: where the machine goes on, the path holds the new text after the last of the calls.
 pub fn a_replaced_path_holds_the_new()
     ensures { (text : List ℕ) (calls : List Call) → IsReplacing text calls
         → (held : Option (List ℕ)) → held_after held calls ≡ Some text }

@@ -73,6 +73,8 @@ impl<N: Replacement + Drop> Write for Page<N> {
 
     ghost failures = { λ p. p.failures };
 
+    /// Writes a first part of the bytes to the new file, and gives its length; the fault of a write that fails is
+    /// kept.
     #[tactic(auto, using(crate::proofs::Writing::wrote_text, crate::proofs::Writing::only_more, crate::proofs::Writing::took_some))]
     fn write(&mut self, bytes: &[u8]) -> Result<usize, Halt> {
         match self.new.write(bytes) {
@@ -86,8 +88,8 @@ impl<N: Replacement + Drop> Write for Page<N> {
     }
 }
 
-/// Has what was written to a page take the place of the file of the path that was begun, once the disk has it all. Where it can't, the
-/// path holds what it held, and the new file is taken away.
+/// Syncs the new file of a page, and has it take the place of the file at the path last given to `begin_replacement`.
+/// Where either fails, the path holds what it held, and the new file is removed.
 pub fn replace_by_page<F: Folder>(folder: &mut F, page: Page<F::New>) -> Result<(), ReplaceFault>
     ensures replaced { OnOk result (HasReplacedBy (F.placed folder.old) (F.placed folder.new)
         (F.begun folder.old) (text_on page)) }
@@ -104,7 +106,7 @@ pub fn replace_by_page<F: Folder>(folder: &mut F, page: Page<F::New>) -> Result<
     }
 }
 
-/// Takes the new file of a page away. Says why a write to it failed, where one did.
+/// Removes the new file of a page, and gives the fault of the last write that failed, `CannotReplace` where none did.
 pub fn discard_page<F: Folder>(folder: &mut F, page: Page<F::New>) -> ReplaceFault
     ensures same { F.placed folder.new ≡ F.placed folder.old }
     ensures failed { HasHalted 0 page.failures 0 0 → F.failed folder.new ≡ true }

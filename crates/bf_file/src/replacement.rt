@@ -6,14 +6,14 @@ ghost use Rattle.bf_file.specs.Replacing.{made};
 
 use crate::fault::ReplaceFault;
 
-/// A new file that is to take another's place. Contracts see the calls that were made of it and went well, where it tells them, and
-/// whether one failed.
+/// A new file that is to take another's place. Contracts see the calls that were made of it and went well, where it
+/// tells them, and whether one failed.
 pub trait Replacement {
     ghost calls: { Self → Option (List Call) };
 
     ghost failed: { Self → Bool };
 
-    /// Writes the first of the bytes, at least one where there is one, and says how many.
+    /// Writes a first part of the bytes, at least one where there is one, and gives its length.
     fn write(&mut self, bytes: &[u8]) -> Result<usize, ReplaceFault>
         ensures bound { IfOk result (λ n. n ≤ length bytes.now) }
         ensures some { IfOk result (λ n. bytes.now ≢ [] → n ≢ 0) }

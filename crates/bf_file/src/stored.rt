@@ -17,8 +17,8 @@ pub struct StoredNew {
     pub failed: bool,
 }
 
-/// A folder in memory, which tells all: that a folder can do so and keep the clauses of `Folder` is proved of it. A call that finds no
-/// memory has failed.
+/// A folder in memory, which tells all: that a folder can do so and keep the clauses of `Folder` is proved of it. A
+/// call that finds no memory has failed.
 #[derive(Drop)]
 pub struct StoredFolder {
     pub placed: Sequence<Placed>,
@@ -27,7 +27,7 @@ pub struct StoredFolder {
 }
 
 impl StoredFolder {
-    /// A folder in which no file was replaced yet.
+    /// A folder in memory, in which no file was replaced yet.
     pub fn new(alloc: Global) -> StoredFolder
         ensures { result ≡ record { placed = []; begun = None; failed = false } }
     {
@@ -39,7 +39,7 @@ impl StoredFolder {
     }
 }
 
-/// One more call, behind the others.
+/// Adds a call behind the others.
 fn add_call(calls: &mut Sequence<Call>, call: Call) -> Result<(), ReplaceFault>
     ensures ok { OnOk result (calls.new ≡ calls.old ++ call ∷ []) }
     ensures err { OnErr result (calls.new ≡ calls.old) }
@@ -50,6 +50,7 @@ fn add_call(calls: &mut Sequence<Call>, call: Call) -> Result<(), ReplaceFault>
     }
 }
 
+/// Adds the call that wrote these bytes, and gives their number.
 fn add_write(alloc: Global, calls: &mut Sequence<Call>, bytes: &[u8]) -> Result<usize, ReplaceFault>
     ensures count { IfOk result (λ n. n ≡ length bytes.now) }
     ensures ok { OnOk result (calls.new ≡ calls.old ++ Call.Wrote bytes.now ∷ []) }
@@ -60,7 +61,7 @@ fn add_write(alloc: Global, calls: &mut Sequence<Call>, bytes: &[u8]) -> Result<
     Ok(bytes.len())
 }
 
-/// Adds a path with the calls of its new file, and the rename behind them.
+/// Adds a path with the calls of its new file, a rename after them.
 fn add_placed(
     placed: &mut Sequence<Placed>,
     path: Text,
@@ -84,12 +85,14 @@ impl Replacement for StoredNew {
 
     ghost failed = { λ n. n.failed };
 
+    /// Adds the write of all these bytes to the calls. It fails only where memory is wanting.
     fn write(&mut self, bytes: &[u8]) -> Result<usize, ReplaceFault> {
         let written = add_write(self.alloc, &mut self.calls, bytes);
         self.failed = self.failed || written.is_err();
         written
     }
 
+    /// Adds a sync to the calls. It fails only where memory is wanting.
     fn sync(&mut self) -> Result<(), ReplaceFault> {
         let synced = add_call(&mut self.calls, Call::Synced);
         self.failed = self.failed || synced.is_err();
@@ -108,6 +111,7 @@ impl Folder for StoredFolder {
 
     ghost failed = { λ f. f.failed };
 
+    /// Remembers the path for `rename`, and gives a new file of which no call was made.
     fn begin_replacement(&mut self, alloc: Global, path: &str) -> Result<StoredNew, ReplaceFault> {
         let Ok(path) = Text::copy_of(alloc, path) else {
             self.failed = true;
@@ -121,6 +125,8 @@ impl Folder for StoredFolder {
         })
     }
 
+    /// Adds the path last begun with the new file's calls; `CannotReplace` where none was begun since the last
+    /// rename.
     fn rename(&mut self, new: StoredNew) -> Result<(), ReplaceFault> {
         let renamed = match self.begun.take() {
             Some(path) => add_placed(&mut self.placed, path, new.calls),
@@ -130,6 +136,7 @@ impl Folder for StoredFolder {
         renamed
     }
 
+    /// Drops the new file; nothing is placed.
     fn discard(&mut self, new: StoredNew) {
         self.failed = new.failed || self.failed;
     }

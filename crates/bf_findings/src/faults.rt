@@ -26,7 +26,7 @@ const MOST_FAULTS: usize = 100;
 /// How many bytes a text may have for which a name is sought: as many as an id.
 const LONGEST_NAME: usize = 250;
 
-/// What stands at a place, as it is told.
+/// The value at a place, as a finding shows it: `missing` for None.
 fn told_value_at(
     alloc: Global,
     place: &DocumentPlace,
@@ -40,7 +40,8 @@ fn told_value_at(
     }
 }
 
-/// The text at a place for which a name is sought: an unknown key, or what stands there.
+/// The text at a place for which a known name is sought: an unknown key, or else the value there. None where that is
+/// no text, or is longer than an id may be.
 fn sought_text_at<'a>(place: &'a DocumentPlace, value: Option<&'a Value>) -> Option<&'a str>
     ensures { option_map (λ s. s.now) result
         ≡ sought_text_in place.entry.now (option_map (λ v. view v.now) value.entry) }
@@ -56,7 +57,8 @@ fn sought_text_at<'a>(place: &'a DocumentPlace, value: Option<&'a Value>) -> Opt
     }
 }
 
-/// The name that is meant by a text, or the known one that is nearest.
+/// The known name for a text where `form` may stand: what Airflow's or cron's name means, or else the nearest name;
+/// None where no name is near.
 fn suggestion(
     alloc: Global,
     document: &Value,
@@ -76,7 +78,7 @@ fn suggestion(
     }
 }
 
-/// The same, where a name is sought.
+/// The known name that is meant by a text where `form` may stand, or the nearest; None without a text or a near name.
 fn suggestion_for(
     alloc: Global,
     document: &Value,
@@ -93,7 +95,7 @@ fn suggestion_for(
 }
 
 impl Document<'_> {
-    /// What is wrong at a place, if something is.
+    /// What is wrong at a place, with what may be there and a suggested name; None where nothing is wrong.
     fn fault_at(self, alloc: Global, place: DocumentPlace) -> Result<Option<Fault>, OutOfMemory>
         ensures some { IfOk result (λ found. IfSome found
             (IsFault (option_map (λ s. s.now) self.entry.zone_file) (view self.entry.value.now))) }
@@ -119,7 +121,7 @@ impl Document<'_> {
         }))
     }
 
-    /// What is wrong at each place of the document, up to the hundredth fault.
+    /// What is wrong at each place of the document, from the top down, up to the hundredth fault.
     pub(crate) fn faults(self, alloc: Global) -> Result<Vec<Fault>, OutOfMemory>
         ensures { IfOk result (λ v. AreFaults (option_map (λ s. s.now) self.entry.zone_file)
             (view self.entry.value.now) v.items) }

@@ -64,7 +64,7 @@ fn graph_form(key: GraphKey) -> Form
     }
 }
 
-/// What may stand under a key of the task behind n others.
+/// What may stand under a key of task `n`, counted from 0.
 fn task_form(n: usize, key: TaskKey) -> Form
     ensures { result ≡ task_form_of n key }
 {
@@ -85,7 +85,7 @@ fn task_form(n: usize, key: TaskKey) -> Form
     }
 }
 
-/// Whether the task behind n others is to be expanded.
+/// Whether task `n` of the document, counted from 0, has the key `expand`.
 fn is_expanded(document: &Value, n: usize) -> bool
     ensures { result ≡ is_expanded_in (view document.now) n }
 {
@@ -94,7 +94,7 @@ fn is_expanded(document: &Value, n: usize) -> bool
         .is_some()
 }
 
-/// What may stand at a place of the document.
+/// What may stand at a place of the document, whatever stands there.
 pub(crate) fn form_of(document: &Value, place: &DocumentPlace) -> Form
     ensures { result ≡ form_in (view document.now) place.now }
 {
@@ -132,7 +132,7 @@ impl fmt::Display for Form {
 impl Form {
     ghost use Rattle.bf_findings.specs.Forms.{form_words};
 
-    /// The words for what may stand there, but for the bounds of a number.
+    /// The words that say what the form is, as `has to be true`, but for the bounds of a number.
     fn words_without_bounds(self) -> &'static str
         ensures { result.now ≡ form_words self }
     {

@@ -32,7 +32,7 @@ fn is_schedule(alloc: Global, text: &str) -> Result<bool, OutOfMemory>
     }
 }
 
-/// Whether a text means a zone.
+/// Whether a text means a zone; `file` has the bytes for the text `file`.
 fn is_zone(alloc: Global, text: &str, file: Option<&[u8]>) -> Result<bool, OutOfMemory>
     ensures yes { IfOk result (λ b. b ≡ true
         → IsZoneText text.now (option_map (λ s. s.now) file.entry)) }
@@ -50,7 +50,7 @@ fn is_zone(alloc: Global, text: &str, file: Option<&[u8]>) -> Result<bool, OutOf
 }
 
 impl Document<'_> {
-    /// Whether a text may stand where this form may.
+    /// Whether a text may stand where `form` may, a schedule's and a zone's text read too.
     fn text_may_stand(self, alloc: Global, form: Form, text: &str) -> Result<bool, OutOfMemory>
         ensures yes { IfOk result (λ b. b ≡ true
             → TextMayStand (option_map (λ s. s.now) self.entry.zone_file)
@@ -66,7 +66,7 @@ impl Document<'_> {
         }
     }
 
-    /// Whether a value may stand where this form may.
+    /// Whether a value, a text or not, may stand where `form` may.
     fn may_stand(self, alloc: Global, form: Form, value: &Value) -> Result<bool, OutOfMemory>
         ensures yes { IfOk result (λ b. b ≡ true
             → MayStand (option_map (λ s. s.now) self.entry.zone_file) (view self.entry.value.now)
@@ -81,7 +81,7 @@ impl Document<'_> {
         }
     }
 
-    /// Whether what stands at a place may not, or nothing stands where something has to.
+    /// Whether the value at a place may not stand where `form` may, or, for None, the place has to have a value.
     pub(crate) fn is_wrong(
         self,
         alloc: Global,
@@ -105,7 +105,7 @@ impl Document<'_> {
     }
 }
 
-/// Whether something has to stand at a place.
+/// Whether a graph file has to have a value at a place: `dag_id`, `schedule`, `tasks`, and the `id` of a task.
 fn is_required(place: &DocumentPlace) -> bool
     ensures { result ≡ is_required_in place.now }
 {

@@ -32,12 +32,14 @@ pub(crate) const TASK_KEYS: [TaskKey; 13] = [
 
 pub(crate) const WORD_KEYS: [WordKey; 3] = [WordKey::Context, WordKey::Pull, WordKey::Item];
 
+/// Whether a graph file's object may have this key.
 pub(crate) fn is_graph_key(name: &str) -> bool
     ensures { result ≡ is_graph_key_in name.now }
 {
     GRAPH_KEYS.iter().any(|key| name == key.name())
 }
 
+/// Whether a task's object may have this key.
 pub(crate) fn is_task_key(name: &str) -> bool
     ensures { result ≡ is_task_key_in name.now }
 {

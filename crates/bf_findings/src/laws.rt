@@ -5,7 +5,8 @@ ghost use Rattle.bf_findings.specs.EachPlace.{IsPlace};
 ghost use Rattle.bf_findings.specs.Listed.{places_in};
 ghost use Rattle.bf_findings.specs.declared.place.DocumentPlace.{DocumentPlace};
 
-/// Each place of a document at which something stands is among those that are looked at, and each key that has a meaning there.
+/// A law: each place of a document at which something stands is among those that are looked at, and so is each
+/// key that has a meaning there.
 pub fn each_place_is_listed()
     ensures { (d : Data) (place : DocumentPlace) → IsPlace d place → Contains (places_in d) place }
 {}

@@ -2,7 +2,7 @@
 ghost use Rattle.std.specs.Prelude.{◌≡◌, ◌<◌, ◌≤◌, ℕ, List, length, map, Some, option_map, All, IfOk};
 ghost use Rattle.serde_json.specs.View.{view};
 ghost use Rattle.bf_read.specs.Reading.{data_in};
-ghost use Rattle.bf_findings.specs.declared.finding.Finding.TheVariants.{Fault};
+ghost use Rattle.bf_findings.specs.declared.finding.Finding.TheVariants.{Fault as FaultFound};
 ghost use Rattle.bf_findings.specs.Findings.{AreFindings, IsFinding, TellsAll};
 ghost use Rattle.bf_findings.specs.inner.Findings.{IsRefusedFor};
 
@@ -15,7 +15,8 @@ use bf_value::OutOfMemory;
 use serde_json::Value;
 use std::alloc::Global;
 
-/// Why a graph file is refused, if it is.
+/// Why a graph file, as its bytes, is refused; None where it is accepted. `zone_file` has the bytes for the zone
+/// `file`.
 fn refusal(
     alloc: Global,
     graph: &[u8],
@@ -35,13 +36,15 @@ fn refusal(
     }
 }
 
+/// The faults as findings, in order.
 fn as_findings(alloc: Global, faults: Vec<Fault>) -> Result<Vec<Finding>, OutOfMemory>
-    ensures { IfOk result (λ v. v.items ≡ map Fault faults.items) }
+    ensures { IfOk result (λ v. v.items ≡ map FaultFound faults.items) }
 {
     Ok(faults.into_iter().map(Finding::Fault).collect(alloc)?)
 }
 
-/// What is wrong at the places of a document.
+/// What is wrong at the places of a document, up to the hundredth fault. `zone_file` has the bytes for the zone
+/// `file`.
 fn document_findings(
     alloc: Global,
     value: &Value,
@@ -59,7 +62,8 @@ fn document_findings(
     Ok(found)
 }
 
-/// What is wrong in the bytes of a graph file; nothing of those that are too many.
+/// What is wrong in the bytes of a graph file: that they are no JSON, or else the faults of its document. Empty for a
+/// file that is too long, which its refusal tells.
 #[tactic(auto, using(crate::proofs::Files::data_there, crate::proofs::Files::no_data_there))]
 fn findings_in_bytes(
     alloc: Global,
@@ -86,7 +90,7 @@ fn findings_in_bytes(
     }
 }
 
-/// What is found in a graph file that is refused: what is wrong at its places, or else why it is refused.
+/// What is found in a graph file that is refused: what is wrong at its places, or, where that is nothing, `refusal`.
 #[tactic(auto, using(crate::proofs::PlaceLemmas::still_told))]
 fn findings_of_refused(
     alloc: Global,
@@ -109,9 +113,8 @@ fn findings_of_refused(
     Ok(found)
 }
 
-/// What is wrong with a graph file, all that can be told at once, from the top down, up to the hundredth fault: nothing exactly where it
-/// is accepted. The bytes of
-/// a zone file are looked at only where the graph's zone is `file`.
+/// What is wrong with a graph file, all that can be told at once, from the top down, up to the hundredth fault:
+/// nothing exactly where it is accepted. A zone file's bytes are looked at only where the graph's zone is `file`.
 pub fn findings(
     alloc: Global,
     graph: &[u8],

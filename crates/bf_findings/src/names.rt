@@ -11,8 +11,8 @@ use bf_value::OutOfMemory;
 use serde_json::{Map, Value};
 use std::alloc::Global;
 
-/// The key of a graph file that Airflow has under this name.
-#[tactic(auto, unfolding(crate::specs::Names::graph_key_meant))]
+/// The key of a graph file that Airflow has under this name, in lower case; None for any other name.
+#[tactic(auto, unfolding(crate::specs::Names::graph_key_meant_of))]
 fn graph_key_meant(name: &str) -> Option<&'static str>
     ensures { option_map (λ s. s.now) result ≡ graph_key_meant_of name.now }
 {
@@ -23,8 +23,8 @@ fn graph_key_meant(name: &str) -> Option<&'static str>
     }
 }
 
-/// The key of a task that Airflow's operators have under this name.
-#[tactic(auto, unfolding(crate::specs::Names::task_key_meant))]
+/// The key of a task that Airflow's operators have under this name, in lower case; None for any other name.
+#[tactic(auto, unfolding(crate::specs::Names::task_key_meant_of))]
 fn task_key_meant(name: &str) -> Option<&'static str>
     ensures { option_map (λ s. s.now) result ≡ task_key_meant_of name.now }
 {
@@ -37,8 +37,8 @@ fn task_key_meant(name: &str) -> Option<&'static str>
     }
 }
 
-/// The trigger rule of an older name in Airflow.
-#[tactic(auto, unfolding(crate::specs::Names::rule_meant))]
+/// The trigger rule of an older name in Airflow; None for any other name.
+#[tactic(auto, unfolding(crate::specs::Names::rule_meant_of))]
 fn rule_meant(name: &str) -> Option<&'static str>
     ensures { option_map (λ s. s.now) result ≡ rule_meant_of name.now }
 {
@@ -49,8 +49,8 @@ fn rule_meant(name: &str) -> Option<&'static str>
     }
 }
 
-/// The preset that cron knows under this name.
-#[tactic(auto, unfolding(crate::specs::Names::schedule_meant))]
+/// The preset here for what cron calls `@midnight` or `@annually`; None for any other name.
+#[tactic(auto, unfolding(crate::specs::Names::schedule_meant_of))]
 fn schedule_meant(name: &str) -> Option<&'static str>
     ensures { option_map (λ s. s.now) result ≡ schedule_meant_of name.now }
 {
@@ -61,8 +61,8 @@ fn schedule_meant(name: &str) -> Option<&'static str>
     }
 }
 
-/// The context variable of an older or shorter name in Airflow.
-#[tactic(auto, unfolding(crate::specs::Names::context_meant))]
+/// The context variable of an older or shorter name in Airflow; None for any other name.
+#[tactic(auto, unfolding(crate::specs::Names::context_meant_of))]
 fn context_meant(name: &str) -> Option<&'static str>
     ensures { option_map (λ s. s.now) result ≡ context_meant_of name.now }
 {
@@ -73,7 +73,7 @@ fn context_meant(name: &str) -> Option<&'static str>
     }
 }
 
-/// What is meant by a word of Airflow's or cron's that this format has under another name.
+/// The name here of what Airflow or cron calls `name`, in lower case, where `form` may stand; None for other names.
 pub(crate) fn meant_name(form: Form, name: &str) -> Option<&'static str>
     ensures { option_map (λ s. s.now) result ≡ meant_name_of form name.now }
 {
@@ -145,7 +145,7 @@ const CONTEXTS: [&str; 7] = [
     "try_number",
 ];
 
-/// The names that the format itself has for a form.
+/// The names that the format itself has for a form; none for forms without such names.
 fn fixed_names(form: Form) -> &'static [&'static str]
     ensures { map (λ s. s.now) result.now ≡ fixed_names_of form }
 {
@@ -162,7 +162,7 @@ fn fixed_names(form: Form) -> &'static [&'static str]
     }
 }
 
-/// The id of a task, where it has one.
+/// The id of a task's object; None where it is missing, or no id.
 fn known_id<'a>(task: &'a Value) -> Option<&'a str>
     ensures { option_map (λ s. s.now) result ≡ id_known (view task.entry.now) }
 {
@@ -170,7 +170,7 @@ fn known_id<'a>(task: &'a Value) -> Option<&'a str>
     if is_id(id) { Some(id) } else { None }
 }
 
-/// The ids of the tasks of a document.
+/// The ids of the tasks of a document, in order, those left out that are no ids.
 fn ids_in<'a>(alloc: Global, document: &'a Value) -> Result<Vec<&'a str>, OutOfMemory>
     ensures { IfOk result (λ v. map (λ s. s.now) v.items ≡ ids_of (view document.entry.now)) }
 {
@@ -183,7 +183,7 @@ fn ids_in<'a>(alloc: Global, document: &'a Value) -> Result<Vec<&'a str>, OutOfM
     Ok(found)
 }
 
-/// The names of pools that are ids.
+/// The names of pools that tasks may name: those of the form of an id.
 fn pool_names_that_are_ids<'a>(
     alloc: Global,
     pools: &'a Map<String, Value>,
@@ -200,7 +200,7 @@ fn pool_names_that_are_ids<'a>(
     Ok(names)
 }
 
-/// The names of the pools that tasks may name.
+/// The names of the pools that tasks may name: those of the document, and `default_pool`.
 fn pool_names<'a>(alloc: Global, document: &'a Value) -> Result<Vec<&'a str>, OutOfMemory>
     ensures { IfOk result (λ v. map (λ s. s.now) v.items
         ≡ pool_names_of (view document.entry.now)) }
@@ -213,7 +213,7 @@ fn pool_names<'a>(alloc: Global, document: &'a Value) -> Result<Vec<&'a str>, Ou
     Ok(names)
 }
 
-/// The names that may stand where a form may, or that its keys have.
+/// The known names for a form: the document's for tasks and pools, and else the format's own, which may be none.
 pub(crate) fn names_for<'a>(
     alloc: Global,
     document: &'a Value,

@@ -7,7 +7,7 @@ use bf_value::OutOfMemory;
 use std::alloc::Global;
 use strsim::levenshtein;
 
-/// How many edits lead from a text in lowercase to a name, in whichever case.
+/// How many edits (Levenshtein) lead from a text in lower case to a name, whose case doesn't count.
 fn edit_distance(alloc: Global, text: &str, name: &str) -> Result<usize, OutOfMemory>
     ensures { IfOk result (λ n. n ≡ distance_to text.now name.now) }
 {
@@ -22,7 +22,7 @@ struct Found<'a> {
     distance: usize,
 }
 
-/// The nearer of the best so far and another, the former where they are as far.
+/// The nearer of the best name so far and another, and the best so far where both are as near.
 #[tactic(auto, using(crate::proofs::Nearness::still_nearest, crate::proofs::Nearness::now_nearest, crate::proofs::Nearness::first_nearest))]
 fn nearer<'a>(best: Option<Found<'a>>, other: Found<'a>) -> Found<'a>
     ensures { (text : List ℕ) (names : List (List ℕ)) → IsBest text names best.entry
@@ -35,7 +35,7 @@ fn nearer<'a>(best: Option<Found<'a>>, other: Found<'a>) -> Found<'a>
     }
 }
 
-/// The first of the names that are nearest to a text in lowercase.
+/// The first of the names that are nearest to a text in lower case; None where there are no names.
 fn nearest<'a>(
     alloc: Global,
     text: &str,
@@ -51,14 +51,14 @@ fn nearest<'a>(
     Ok(best)
 }
 
-/// Whether so many edits leave more than half of the longer text.
+/// Whether the edits, `distance` of them, are fewer than half of the bytes of the longer text, rounded up.
 fn is_near(text: &str, name: &str, distance: usize) -> bool
     ensures { result ≡ is_near_in text.now name.now distance }
 {
     distance < text.len().max(name.len()).div_ceil(2)
 }
 
-/// Of the names the first that is nearest to a text, where it is near.
+/// The first of the names that are nearest to a text, case aside; None where even that isn't near (`is_near`).
 pub(crate) fn suggested_name<'a>(
     alloc: Global,
     text: &str,

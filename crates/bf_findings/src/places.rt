@@ -12,6 +12,7 @@ use bf_value::{OutOfMemory, Text};
 use serde_json::{Map, Value};
 use std::alloc::Global;
 
+/// Adds the place of each known key of a graph file, whether the file has it or not.
 fn add_graph_keys(places: &mut Vec<DocumentPlace>) -> Result<(), OutOfMemory>
     ensures { OnOk result (places.new.items ≡ places.old.items ++ graph_key_places) }
 {
@@ -21,7 +22,7 @@ fn add_graph_keys(places: &mut Vec<DocumentPlace>) -> Result<(), OutOfMemory>
     Ok(())
 }
 
-/// Adds the keys that graph files don't have.
+/// Adds the place of each key of the document `graph` that graph files don't have.
 fn add_other_keys(
     alloc: Global,
     places: &mut Vec<DocumentPlace>,
@@ -38,6 +39,7 @@ fn add_other_keys(
     Ok(())
 }
 
+/// Adds the place of each pool.
 fn add_pool_names(
     alloc: Global,
     places: &mut Vec<DocumentPlace>,
@@ -52,6 +54,7 @@ fn add_pool_names(
     Ok(())
 }
 
+/// Adds the place of each pool that a document names; nothing where it has no object of pools.
 fn add_pools(
     alloc: Global,
     places: &mut Vec<DocumentPlace>,
@@ -66,6 +69,7 @@ fn add_pools(
     }
 }
 
+/// Adds the place of each known key of task `n`, whether the task has it or not.
 fn add_task_keys(places: &mut Vec<DocumentPlace>, n: usize) -> Result<(), OutOfMemory>
     ensures { OnOk result (places.new.items ≡ places.old.items ++ task_key_places n) }
 {
@@ -75,7 +79,7 @@ fn add_task_keys(places: &mut Vec<DocumentPlace>, n: usize) -> Result<(), OutOfM
     Ok(())
 }
 
-/// Adds the keys that tasks don't have.
+/// Adds the place of each key of task `n` that tasks don't have.
 fn add_other_task_keys(
     alloc: Global,
     places: &mut Vec<DocumentPlace>,
@@ -94,7 +98,7 @@ fn add_other_task_keys(
     Ok(())
 }
 
-/// The items of the list under a key of a task, of which there are none where no list is there.
+/// The items of the list under a key of a task; none where the key has no list.
 #[tactic(auto, using(crate::proofs::Lists::list_viewed))]
 fn items_under<'a>(task: &'a Value, key: TaskKey) -> &'a [Value]
     ensures { map view result.now ≡ items_in (view task.entry.now) key }
@@ -105,6 +109,7 @@ fn items_under<'a>(task: &'a Value, key: TaskKey) -> &'a [Value]
     }
 }
 
+/// Adds the place of each upstream of task `n`, whose list of them is `items`.
 fn add_upstreams(
     places: &mut Vec<DocumentPlace>,
     n: usize,
@@ -119,6 +124,7 @@ fn add_upstreams(
     Ok(())
 }
 
+/// Adds the place of each key `context`, `pull` or `item` that word `i` of task `n` has.
 fn add_word_keys(
     places: &mut Vec<DocumentPlace>,
     n: usize,
@@ -136,6 +142,7 @@ fn add_word_keys(
     Ok(())
 }
 
+/// Adds the place of each word of task `n`, whose command is `items`, each followed by those of its keys.
 fn add_words(places: &mut Vec<DocumentPlace>, n: usize, items: &[Value]) -> Result<(), OutOfMemory>
     ensures { OnOk result (places.new.items ≡ places.old.items ++ words n 0 (map view items.now)) }
 {
@@ -146,7 +153,7 @@ fn add_words(places: &mut Vec<DocumentPlace>, n: usize, items: &[Value]) -> Resu
     Ok(())
 }
 
-/// Adds the places of the task behind n others.
+/// Adds the place of task `n`, and, where its value is an object, those of its keys, upstreams and words.
 fn add_task(
     alloc: Global,
     places: &mut Vec<DocumentPlace>,
@@ -165,6 +172,7 @@ fn add_task(
     add_words(places, n, items_under(task, TaskKey::Command))
 }
 
+/// Adds the places of each task and of what is in it.
 fn add_tasks(
     alloc: Global,
     places: &mut Vec<DocumentPlace>,
@@ -178,7 +186,7 @@ fn add_tasks(
     Ok(())
 }
 
-/// The places of a document, from the top down.
+/// The places of a document that are checked, from the top down; only the top where it is no object.
 pub(crate) fn places_of(alloc: Global, document: &Value) -> Result<Vec<DocumentPlace>, OutOfMemory>
     ensures { IfOk result (λ v. v.items ≡ places_in (view document.now)) }
 {

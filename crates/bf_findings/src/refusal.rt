@@ -13,7 +13,7 @@ pub enum Refusal {
     Check(CheckFault),
 }
 
-/// What is wrong with a file that is refused when it is read.
+/// What a finding says, behind the fault itself, of a file that is refused when it is read.
 fn words_of_read_fault(fault: &ReadFault) -> &'static str
     ensures { result.now ≡ why_read fault.now }
 {
@@ -26,7 +26,7 @@ fn words_of_read_fault(fault: &ReadFault) -> &'static str
     }
 }
 
-/// What is wrong with a task.
+/// What a finding says, behind the fault itself, of a task that is refused.
 fn words_of_task_fault(fault: TaskFault) -> &'static str
     ensures { result.now ≡ why_task fault }
 {
@@ -44,7 +44,7 @@ fn words_of_task_fault(fault: TaskFault) -> &'static str
     }
 }
 
-/// What is wrong with a graph that is refused when it is checked.
+/// What a finding says, behind the fault itself, of a graph that is refused when it is checked.
 fn words_of_check_fault(fault: &CheckFault) -> &'static str
     ensures { result.now ≡ why_check fault.now }
 {

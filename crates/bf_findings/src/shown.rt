@@ -13,7 +13,7 @@ use std::alloc::Global;
 /// How many bytes of a value are told; of a longer one only what it is.
 const MOST_SHOWN: usize = 260;
 
-/// A text as JSON.
+/// The JSON text of a text, with its quotes.
 pub(crate) fn json_text_of(alloc: Global, text: &str) -> Result<Text, OutOfMemory>
     ensures { IfOk result (λ t. t ≡ compact_text (string text.now)) }
 {
@@ -21,7 +21,7 @@ pub(crate) fn json_text_of(alloc: Global, text: &str) -> Result<Text, OutOfMemor
     Ok(Text::new(value.to_string(alloc)?))
 }
 
-/// The text, or what stands for a long one.
+/// The text, or `a long text` where it has more than `MOST_SHOWN` bytes.
 fn shortened_text(alloc: Global, text: String) -> Result<Text, OutOfMemory>
     ensures { IfOk result (λ t. t ≡ shortened_text_of (string_bytes text)) }
 {
@@ -31,7 +31,8 @@ fn shortened_text(alloc: Global, text: String) -> Result<Text, OutOfMemory>
     Ok(Text::new(text))
 }
 
-/// A value as JSON, or what it is.
+/// A value as a finding shows it: its JSON, or only its kind, as `a list`, where that might be long or is no whole
+/// number.
 #[tactic(auto, using(crate::proofs::Plain::no_float))]
 fn shown_value(alloc: Global, value: &Value) -> Result<Text, OutOfMemory>
     ensures { IfOk result (λ t. t ≡ shown_value_of (view value.now)) }
@@ -48,7 +49,7 @@ fn shown_value(alloc: Global, value: &Value) -> Result<Text, OutOfMemory>
     shortened_text(alloc, value.to_string(alloc)?)
 }
 
-/// A key that has no meaning.
+/// A key that has no meaning, as a finding shows it: `unknown key "size"`.
 fn shown_unknown_key(alloc: Global, key: &str) -> Result<Text, OutOfMemory>
     ensures { IfOk result (λ t. t ≡ codes "unknown key " ++ compact_text (string key.now)) }
 {
@@ -56,7 +57,7 @@ fn shown_unknown_key(alloc: Global, key: &str) -> Result<Text, OutOfMemory>
     Ok(Text::new(format!(in alloc; "unknown key {key}")?))
 }
 
-/// The name of a pool and its slots.
+/// A pool's name and the value of its slots, as a finding shows them: `"gpu": 0`.
 fn shown_pool(alloc: Global, name: &str, value: &Value) -> Result<Text, OutOfMemory>
     ensures { IfOk result (λ t. t ≡ compact_text (string name.now) ++ codes ": "
         ++ shown_value_of (view value.now)) }
@@ -65,7 +66,7 @@ fn shown_pool(alloc: Global, name: &str, value: &Value) -> Result<Text, OutOfMem
     Ok(Text::new(format!(in alloc; "{name}: {slots}")?))
 }
 
-/// What stands at a place, as it is told.
+/// The value at a place, as a finding shows it; of an unknown key only the key.
 pub(crate) fn shown_at(
     alloc: Global,
     place: &DocumentPlace,

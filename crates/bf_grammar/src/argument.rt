@@ -1,13 +1,13 @@
 //! Arguments of commands, as `clap` reads them.
 ghost use Rattle.std.specs.Prelude.{◌≡◌};
 ghost use Rattle.clap.specs.Words.{rule_of};
-ghost use Rattle.bf_grammar.specs.Grammar.{color_rule, explain_rule, failed_rule, from_rule, graph_rule, index_rule, journal_rule, json_rule, keep_rule, launcher_rule, logs_rule, on_rule, option_rule, out_rule, plan_rule, optional_positional_rule, positional_rule, progress_rule, quiet_rule, repeated_rule, required_option_rule, retry_failed_rule, run_rule, seeds_rule, some_rule, stop_after_rule, table_rule, task_rule, to_rule, width_rule, workers_rule, zone_file_rule};
+ghost use Rattle.bf_grammar.specs.Grammar.{explain_rule, failed_rule, from_rule, graph_rule, index_rule, journal_rule, keep_rule, launcher_rule, logs_rule, on_rule, option_rule, out_rule, plan_rule, optional_positional_rule, positional_rule, progress_rule, quiet_rule, repeated_rule, required_option_rule, retry_failed_rule, run_rule, seeds_rule, some_rule, stop_after_rule, table_rule, task_rule, to_rule, workers_rule, zone_file_rule};
 
 use bf_workers::MOST_WORKERS;
 use clap::{Arg, ArgAction, value_parser};
 use std::alloc::Global;
 
-/// An argument by its place, which has to be there.
+/// A required argument without an option's name. `id` is its key in what `clap` finds, `value` its name in help.
 pub(crate) fn positional<'a>(alloc: Global, id: &'a str, value: &'a str, help: &'a str) -> Arg<'a>
     ensures { rule_of result ≡ positional_rule id.entry.now }
 {
@@ -17,7 +17,7 @@ pub(crate) fn positional<'a>(alloc: Global, id: &'a str, value: &'a str, help: &
         .required(true)
 }
 
-/// An argument by its place, which may be left out.
+/// An optional argument without an option's name. `id` is its key in what `clap` finds, `value` its name in help.
 pub(crate) fn optional_positional<'a>(
     alloc: Global,
     id: &'a str,
@@ -29,7 +29,7 @@ pub(crate) fn optional_positional<'a>(
     Arg::new(alloc, id).value_name(value).help(help)
 }
 
-/// An option with a value.
+/// The option `--long` with a value. `id` is its key in what `clap` finds, `value` the value's name in help.
 pub(crate) fn option_with_value<'a>(
     alloc: Global,
     id: &'a str,
@@ -42,7 +42,7 @@ pub(crate) fn option_with_value<'a>(
     Arg::new(alloc, id).long(long).value_name(value).help(help)
 }
 
-/// An option with a value, which has to be there.
+/// The required option `--id` with a value, whose name in help is `value`.
 pub(crate) fn required_option<'a>(
     alloc: Global,
     id: &'a str,
@@ -58,19 +58,21 @@ pub(crate) fn required_option<'a>(
         .required(true)
 }
 
-/// An option with a value, which may be given several times.
+/// The option `--id` with a value, whose name in help is `value`; a line may give it several times.
 fn repeated_option<'a>(alloc: Global, id: &'a str, value: &'a str, help: &'a str) -> Arg<'a>
     ensures { rule_of result ≡ repeated_rule id.entry.now }
 {
     option_with_value(alloc, id, id, value, help).action(ArgAction::Append)
 }
 
+/// The argument that names the graph file.
 pub(crate) fn graph_argument<'a>(alloc: Global) -> Arg<'a>
     ensures { rule_of result ≡ graph_rule }
 {
     positional(alloc, "graph", "GRAPH", "The task graph, a JSON file")
 }
 
+/// The option `--zone-file`, which names the zone file.
 pub(crate) fn zone_file_option<'a>(alloc: Global) -> Arg<'a>
     ensures { rule_of result ≡ zone_file_rule }
 {
@@ -83,6 +85,7 @@ pub(crate) fn zone_file_option<'a>(alloc: Global) -> Arg<'a>
     )
 }
 
+/// The flag `--explain` of `check`, by which all that is wrong with a graph is told.
 pub(crate) fn explain_flag<'a>(alloc: Global) -> Arg<'a>
     ensures { rule_of result ≡ explain_rule }
 {
@@ -94,6 +97,7 @@ pub(crate) fn explain_flag<'a>(alloc: Global) -> Arg<'a>
         .action(ArgAction::SetTrue)
 }
 
+/// The argument that names the table file.
 pub(crate) fn table_argument<'a>(alloc: Global) -> Arg<'a>
     ensures { rule_of result ≡ table_rule }
 {
@@ -105,6 +109,7 @@ pub(crate) fn table_argument<'a>(alloc: Global) -> Arg<'a>
     )
 }
 
+/// The option `--from`, the first moment, itself included, at which a data interval may start.
 pub(crate) fn from_option<'a>(alloc: Global) -> Arg<'a>
     ensures { rule_of result ≡ from_rule }
 {
@@ -117,6 +122,7 @@ pub(crate) fn from_option<'a>(alloc: Global) -> Arg<'a>
     )
 }
 
+/// The option `--to`, the last moment, itself included, at which a data interval may start.
 pub(crate) fn to_option<'a>(alloc: Global) -> Arg<'a>
     ensures { rule_of result ≡ to_rule }
 {
@@ -129,6 +135,7 @@ pub(crate) fn to_option<'a>(alloc: Global) -> Arg<'a>
     )
 }
 
+/// The option `--on`, the days on which data intervals start, in place of `--from` and `--to`.
 pub(crate) fn on_option<'a>(alloc: Global) -> Arg<'a>
     ensures { rule_of result ≡ on_rule }
 {
@@ -141,6 +148,7 @@ pub(crate) fn on_option<'a>(alloc: Global) -> Arg<'a>
     )
 }
 
+/// The flag `--some`, by which a range without runs is refused.
 pub(crate) fn some_flag<'a>(alloc: Global) -> Arg<'a>
     ensures { rule_of result ≡ some_rule }
 {
@@ -150,6 +158,7 @@ pub(crate) fn some_flag<'a>(alloc: Global) -> Arg<'a>
         .action(ArgAction::SetTrue)
 }
 
+/// The option `--workers`, how many tries may run at once, from 1 to 64.
 pub(crate) fn workers_option<'a>(alloc: Global) -> Arg<'a>
     ensures { rule_of result ≡ workers_rule }
 {
@@ -163,6 +172,7 @@ pub(crate) fn workers_option<'a>(alloc: Global) -> Arg<'a>
     .value_parser(value_parser!(u32).range(1..=i64::from(MOST_WORKERS)))
 }
 
+/// The flag `--progress`, by which is told how far the runs are.
 pub(crate) fn progress_flag<'a>(alloc: Global) -> Arg<'a>
     ensures { rule_of result ≡ progress_rule }
 {
@@ -172,6 +182,7 @@ pub(crate) fn progress_flag<'a>(alloc: Global) -> Arg<'a>
         .action(ArgAction::SetTrue)
 }
 
+/// The option `--out`, which names the file that the report goes to.
 pub(crate) fn out_option<'a>(alloc: Global) -> Arg<'a>
     ensures { rule_of result ≡ out_rule }
 {
@@ -184,6 +195,7 @@ pub(crate) fn out_option<'a>(alloc: Global) -> Arg<'a>
     )
 }
 
+/// The option `--keep`, which names a report whose tries are kept.
 pub(crate) fn keep_option<'a>(alloc: Global) -> Arg<'a>
     ensures { rule_of result ≡ keep_rule }
 {
@@ -196,6 +208,7 @@ pub(crate) fn keep_option<'a>(alloc: Global) -> Arg<'a>
     )
 }
 
+/// The option `--launcher`, which names the program that starts commands.
 pub(crate) fn launcher_option<'a>(alloc: Global) -> Arg<'a>
     ensures { rule_of result ≡ launcher_rule }
 {
@@ -208,6 +221,7 @@ pub(crate) fn launcher_option<'a>(alloc: Global) -> Arg<'a>
     )
 }
 
+/// The option `--logs`, which names the folder of logs.
 pub(crate) fn logs_option<'a>(alloc: Global) -> Arg<'a>
     ensures { rule_of result ≡ logs_rule }
 {
@@ -220,6 +234,7 @@ pub(crate) fn logs_option<'a>(alloc: Global) -> Arg<'a>
     )
 }
 
+/// The option `--journal` of commands that start programs, which names the file that tries are recorded in.
 pub(crate) fn journal_option<'a>(alloc: Global) -> Arg<'a>
     ensures { rule_of result ≡ journal_rule }
 {
@@ -232,6 +247,7 @@ pub(crate) fn journal_option<'a>(alloc: Global) -> Arg<'a>
     )
 }
 
+/// The option `--stop-after`, behind how many failed tries, at least 1, no further one begins.
 pub(crate) fn stop_after_option<'a>(alloc: Global) -> Arg<'a>
     ensures { rule_of result ≡ stop_after_rule }
 {
@@ -245,6 +261,7 @@ pub(crate) fn stop_after_option<'a>(alloc: Global) -> Arg<'a>
     .value_parser(value_parser!(u32).range(1..))
 }
 
+/// The flag `--retry-failed`, by which failed tries of the journal are made again.
 pub(crate) fn retry_failed_flag<'a>(alloc: Global) -> Arg<'a>
     ensures { rule_of result ≡ retry_failed_rule }
 {
@@ -254,6 +271,7 @@ pub(crate) fn retry_failed_flag<'a>(alloc: Global) -> Arg<'a>
         .action(ArgAction::SetTrue)
 }
 
+/// The flag `--quiet`, by which neither progress nor failed tries are told.
 pub(crate) fn quiet_flag<'a>(alloc: Global) -> Arg<'a>
     ensures { rule_of result ≡ quiet_rule }
 {
@@ -263,6 +281,7 @@ pub(crate) fn quiet_flag<'a>(alloc: Global) -> Arg<'a>
         .action(ArgAction::SetTrue)
 }
 
+/// The option `--task` of `clear`, a task that is cleared; it may be given several times.
 pub(crate) fn task_option<'a>(alloc: Global) -> Arg<'a>
     ensures { rule_of result ≡ task_rule }
 {
@@ -274,6 +293,7 @@ pub(crate) fn task_option<'a>(alloc: Global) -> Arg<'a>
     )
 }
 
+/// The option `--run` of `clear`, the run in which a task is cleared; it may be given several times.
 pub(crate) fn run_option<'a>(alloc: Global) -> Arg<'a>
     ensures { rule_of result ≡ run_rule }
 {
@@ -285,6 +305,8 @@ pub(crate) fn run_option<'a>(alloc: Global) -> Arg<'a>
     )
 }
 
+/// The option `--index` of `clear`, the map index, at least -1, of an instance that is cleared alone; it may be given
+/// several times.
 pub(crate) fn index_option<'a>(alloc: Global) -> Arg<'a>
     ensures { rule_of result ≡ index_rule }
 {
@@ -297,6 +319,7 @@ pub(crate) fn index_option<'a>(alloc: Global) -> Arg<'a>
     .value_parser(value_parser!(i32).range(-1..))
 }
 
+/// The option `--seeds` of `clear`, which names a file of what is cleared.
 pub(crate) fn seeds_option<'a>(alloc: Global) -> Arg<'a>
     ensures { rule_of result ≡ seeds_rule }
 {
@@ -309,6 +332,7 @@ pub(crate) fn seeds_option<'a>(alloc: Global) -> Arg<'a>
     )
 }
 
+/// The flag `--failed` of `clear`, by which each failed instance is cleared.
 pub(crate) fn failed_flag<'a>(alloc: Global) -> Arg<'a>
     ensures { rule_of result ≡ failed_rule }
 {
@@ -318,6 +342,7 @@ pub(crate) fn failed_flag<'a>(alloc: Global) -> Arg<'a>
         .action(ArgAction::SetTrue)
 }
 
+/// The flag `--plan` of `clear`, by which is only printed what would be cleared.
 pub(crate) fn plan_flag<'a>(alloc: Global) -> Arg<'a>
     ensures { rule_of result ≡ plan_rule }
 {
@@ -325,76 +350,4 @@ pub(crate) fn plan_flag<'a>(alloc: Global) -> Arg<'a>
         .long("plan")
         .help("Prints which tasks of which runs are cleared, and runs nothing")
         .action(ArgAction::SetTrue)
-}
-
-pub(crate) fn shown_from_option<'a>(alloc: Global) -> Arg<'a>
-    ensures { rule_of result ≡ from_rule }
-{
-    option_with_value(
-        alloc,
-        "from",
-        "from",
-        "T",
-        "Shows the runs from this moment on, in UTC, as 2024-01-31 or 2024-01-31T06:00:00Z",
-    )
-}
-
-pub(crate) fn shown_to_option<'a>(alloc: Global) -> Arg<'a>
-    ensures { rule_of result ≡ to_rule }
-{
-    option_with_value(
-        alloc,
-        "to",
-        "to",
-        "T",
-        "Shows the runs up to this moment, in UTC, as 2024-01-31 or 2024-01-31T06:00:00Z",
-    )
-}
-
-pub(crate) fn shown_failed_flag<'a>(alloc: Global) -> Arg<'a>
-    ensures { rule_of result ≡ failed_rule }
-{
-    Arg::new(alloc, "failed")
-        .long("failed")
-        .help(
-            "Shows only tasks and runs with something that failed, upstream_failed or has no status",
-        )
-        .action(ArgAction::SetTrue)
-}
-
-pub(crate) fn width_option<'a>(alloc: Global) -> Arg<'a>
-    ensures { rule_of result ≡ width_rule }
-{
-    option_with_value(
-        alloc,
-        "width",
-        "width",
-        "N",
-        "The width in characters, 20 to 10,000; that of COLUMNS where this isn't given, or 80",
-    )
-    .value_parser(value_parser!(u32).range(20..=10_000))
-}
-
-pub(crate) fn color_option<'a>(alloc: Global) -> Arg<'a>
-    ensures { rule_of result ≡ color_rule }
-{
-    option_with_value(
-        alloc,
-        "color",
-        "color",
-        "WHEN",
-        "When to colour: auto, always or never; auto where this isn't given, which is on a terminal without NO_COLOR",
-    )
-}
-
-pub(crate) fn json_option<'a>(alloc: Global) -> Arg<'a>
-    ensures { rule_of result ≡ json_rule }
-{
-    option_with_value(
-        alloc,
-        "json",
-        "json",
-        "REPORT",
-        "In place of a grid, prints a JSON object of each task instance of this report, a line each; needs no graph",
-    )
 }

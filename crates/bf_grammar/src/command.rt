@@ -5,14 +5,16 @@ ghost use Rattle.bf_grammar.specs.Grammar.{answered_app, backfill_app, bare_app,
 ghost use Rattle.bf_grammar.specs.inner.Drafts.{IsDraftOf};
 
 use crate::argument::{
-    color_option, explain_flag, failed_flag, from_option, graph_argument, index_option,
-    journal_option, json_option, keep_option, launcher_option, logs_option, on_option,
-    option_with_value, optional_positional, out_option, plan_flag, positional, progress_flag,
-    quiet_flag, required_option, retry_failed_flag, seeds_option, shown_failed_flag,
-    shown_from_option, shown_to_option, some_flag, stop_after_option, table_argument, task_option,
-    to_option, width_option, workers_option, zone_file_option,
+    explain_flag, failed_flag, from_option, graph_argument, index_option, journal_option,
+    keep_option, launcher_option, logs_option, on_option, option_with_value, optional_positional,
+    out_option, plan_flag, positional, progress_flag, quiet_flag, required_option,
+    retry_failed_flag, seeds_option, some_flag, stop_after_option, table_argument, task_option,
+    to_option, workers_option, zone_file_option,
 };
 use crate::draft::Draft;
+use crate::shown_argument::{
+    color_option, json_option, shown_failed_flag, shown_from_option, shown_to_option, width_option,
+};
 use crate::viewing;
 use clap::Command;
 use std::alloc::{AllocError, Global};
@@ -54,7 +56,7 @@ const SCHEMA_EXAMPLE: &str = "Example:\n\
 const COMPLETIONS_EXAMPLE: &str = "Example, of a file for bash to source:\n\
     \x20 backfill completions bash > backfill.bash";
 
-/// A command that starts programs, with these arguments before those of programs.
+/// The command, with the options of commands that start programs behind its own.
 fn with_program_options<'a>(alloc: Global, command: Draft<'a>) -> Draft<'a>
     ensures { (app : App) → IsDraftOf app command.entry → IsDraftOf (programs_app app) result }
 {
@@ -67,7 +69,8 @@ fn with_program_options<'a>(alloc: Global, command: Draft<'a>) -> Draft<'a>
         .arg(quiet_flag(alloc))
 }
 
-/// A command over a graph.
+/// The command `name`, with a graph file and `--zone-file` for arguments. Its help begins with `about` and ends with
+/// `examples`.
 pub(crate) fn new_graph_command<'a>(
     alloc: Global,
     name: &'a str,
@@ -81,7 +84,7 @@ pub(crate) fn new_graph_command<'a>(
         .arg(zone_file_option(alloc))
 }
 
-/// A command over data intervals, with these arguments before those that say where they start.
+/// The command with the options that say where data intervals start, behind its own.
 fn with_range_options<'a>(alloc: Global, command: Draft<'a>) -> Draft<'a>
     ensures { (app : App) → IsDraftOf app command.entry → IsDraftOf (dated_app app) result }
 {
@@ -92,7 +95,8 @@ fn with_range_options<'a>(alloc: Global, command: Draft<'a>) -> Draft<'a>
         .arg(some_flag(alloc))
 }
 
-/// A command that goes over the data intervals of a range, with these arguments before its range.
+/// The command, with the options of a backfill behind its own: its range, its workers, its progress and its report's
+/// file.
 fn with_backfill_options<'a>(alloc: Global, command: Draft<'a>) -> Draft<'a>
     ensures { (app : App) → IsDraftOf app command.entry → IsDraftOf (ranged_app app) result }
 {
@@ -102,7 +106,7 @@ fn with_backfill_options<'a>(alloc: Global, command: Draft<'a>) -> Draft<'a>
         .arg(out_option(alloc))
 }
 
-/// A command that clears, with these arguments before those that say what.
+/// The command with the options that say what is cleared, behind its own.
 fn with_cleared_options<'a>(alloc: Global, command: Draft<'a>) -> Draft<'a>
     ensures { (app : App) → IsDraftOf app command.entry → IsDraftOf (cleared_app app) result }
 {
@@ -115,6 +119,7 @@ fn with_cleared_options<'a>(alloc: Global, command: Draft<'a>) -> Draft<'a>
         .arg(plan_flag(alloc))
 }
 
+/// The command `check` as `clap` is told it.
 fn check_command<'a>(alloc: Global) -> Draft<'a>
     ensures { IsDraftOf check_app result }
 {
@@ -127,6 +132,7 @@ fn check_command<'a>(alloc: Global) -> Draft<'a>
     .arg(explain_flag(alloc))
 }
 
+/// The command `list` as `clap` is told it.
 pub(crate) fn list_command<'a>(alloc: Global) -> Draft<'a>
     ensures { IsDraftOf list_app result }
 {
@@ -139,6 +145,7 @@ pub(crate) fn list_command<'a>(alloc: Global) -> Draft<'a>
     with_range_options(alloc, command)
 }
 
+/// The command `single` as `clap` is told it.
 pub(crate) fn single_command<'a>(alloc: Global) -> Draft<'a>
     ensures { IsDraftOf single_app result }
 {
@@ -158,6 +165,7 @@ pub(crate) fn single_command<'a>(alloc: Global) -> Draft<'a>
     .arg(out_option(alloc))
 }
 
+/// The command `dry` as `clap` is told it.
 pub(crate) fn dry_command<'a>(alloc: Global) -> Draft<'a>
     ensures { IsDraftOf dry_app result }
 {
@@ -170,6 +178,7 @@ pub(crate) fn dry_command<'a>(alloc: Global) -> Draft<'a>
     with_backfill_options(alloc, command.arg(table_argument(alloc))).arg(keep_option(alloc))
 }
 
+/// The command `run` as `clap` is told it.
 pub(crate) fn run_command<'a>(alloc: Global) -> Draft<'a>
     ensures { IsDraftOf run_app result }
 {
@@ -185,6 +194,7 @@ pub(crate) fn run_command<'a>(alloc: Global) -> Draft<'a>
     )
 }
 
+/// The command `clear` as `clap` is told it.
 pub(crate) fn clear_command<'a>(alloc: Global) -> Draft<'a>
     ensures { IsDraftOf clear_app result }
 {
@@ -210,7 +220,7 @@ pub(crate) fn clear_command<'a>(alloc: Global) -> Draft<'a>
     with_program_options(alloc, with_backfill_options(alloc, command))
 }
 
-/// `show` with its files and its range.
+/// The command `show` with its files and its range, and without its other options.
 fn ranged_show_command<'a>(alloc: Global) -> Draft<'a>
     ensures { IsDraftOf showing_app result }
 {
@@ -227,6 +237,7 @@ fn ranged_show_command<'a>(alloc: Global) -> Draft<'a>
     .arg(shown_to_option(alloc))
 }
 
+/// The command `show` as `clap` is told it.
 pub(crate) fn show_command<'a>(alloc: Global) -> Draft<'a>
     ensures { IsDraftOf show_app result }
 {
@@ -237,6 +248,7 @@ pub(crate) fn show_command<'a>(alloc: Global) -> Draft<'a>
         .arg(json_option(alloc))
 }
 
+/// The command `schema` as `clap` is told it.
 pub(crate) fn schema_command<'a>(alloc: Global) -> Draft<'a>
     ensures { IsDraftOf schema_app result }
 {
@@ -254,6 +266,7 @@ pub(crate) fn schema_command<'a>(alloc: Global) -> Draft<'a>
     ))
 }
 
+/// The command `completions` as `clap` is told it.
 pub(crate) fn completions_command<'a>(alloc: Global) -> Draft<'a>
     ensures { IsDraftOf completions_app result }
 {
@@ -266,7 +279,7 @@ pub(crate) fn completions_command<'a>(alloc: Global) -> Draft<'a>
     .arg(positional(alloc, "shell", "SHELL", "The shell, bash, zsh or fish"))
 }
 
-/// The line with no command.
+/// The command line `backfill` without any command.
 fn line_without_commands<'a>(alloc: Global) -> Draft<'a>
     ensures { IsDraftOf bare_app result }
 {
@@ -280,7 +293,7 @@ fn line_without_commands<'a>(alloc: Global) -> Draft<'a>
     }
 }
 
-/// The line with the commands that start no program.
+/// The command line with the commands that start no program.
 fn line_without_programs<'a>(alloc: Global) -> Draft<'a>
     ensures { IsDraftOf answered_app result }
 {
@@ -291,7 +304,7 @@ fn line_without_programs<'a>(alloc: Global) -> Draft<'a>
         .subcommand(dry_command(alloc))
 }
 
-/// And those that do.
+/// The command line with the commands that start no program, and `run` and `clear`.
 fn line_with_programs<'a>(alloc: Global) -> Draft<'a>
     ensures { IsDraftOf running_app result }
 {
@@ -300,7 +313,7 @@ fn line_with_programs<'a>(alloc: Global) -> Draft<'a>
         .subcommand(clear_command(alloc))
 }
 
-/// And those that show a report.
+/// The command line with the commands that start no program, `run` and `clear`, and those that show a report.
 fn line_with_views<'a>(alloc: Global) -> Draft<'a>
     ensures { IsDraftOf viewing_app result }
 {
@@ -311,7 +324,7 @@ fn line_with_views<'a>(alloc: Global) -> Draft<'a>
         .subcommand(viewing::answers_command(alloc))
 }
 
-/// The whole command line.
+/// The whole command line `backfill` with all its commands, as `clap` is told it.
 pub fn backfill_command<'a>(alloc: Global) -> Result<Command<'a>, AllocError>
     ensures { IfOk result (λ c. app_of c ≡ backfill_app) }
 {

@@ -6,15 +6,15 @@ ghost use Rattle.bf_grammar.specs.inner.Drafts.{IsDraftOf};
 use clap::{Arg, Command};
 use std::alloc::{AllocError, Global};
 
-/// A command in the making, or the want of memory that ended it. The steps behind such a want do nothing, so that a chain of
-/// them has no branch at which a command would have to be dropped.
+/// A command in the making, or the want of memory that ended it. The steps behind such a want do nothing, so that a
+/// chain of them has no branch at which a command would have to be dropped.
 #[derive(Drop)]
 pub(crate) struct Draft<'a> {
     pub(crate) command: Result<Command<'a>, AllocError>,
 }
 
 impl<'a> Draft<'a> {
-    /// A command with what its help says.
+    /// The command `name` without arguments. Its help begins with `about` and ends with `examples`.
     pub(crate) fn new(alloc: Global, name: &'a str, about: &'a str, examples: &'a str) -> Draft<'a>
         ensures { IsDraftOf (new_app name.entry.now) result }
     {
@@ -24,7 +24,7 @@ impl<'a> Draft<'a> {
         }
     }
 
-    /// With an argument more.
+    /// The command with one more argument; a draft that already wants memory stays so.
     pub(crate) fn arg(self, argument: Arg<'a>) -> Draft<'a>
         ensures { (app : App) (rule : Rule) → IsDraftOf app self.entry → rule_of argument.entry
             ≡ rule
@@ -40,7 +40,7 @@ impl<'a> Draft<'a> {
         }
     }
 
-    /// With a subcommand more.
+    /// The command with one more subcommand; wants memory where either draft does.
     pub(crate) fn subcommand(self, subcommand: Draft<'a>) -> Draft<'a>
         ensures { (app sub : App) → IsDraftOf app self.entry → IsDraftOf sub subcommand.entry
             → sub.top.is_plain ≡ true → IsDraftOf (with_subcommand app sub.top) result }
@@ -55,6 +55,7 @@ impl<'a> Draft<'a> {
         }
     }
 
+    /// The other command, `command`, with this one as one more subcommand.
     fn added_to(self, command: Command<'a>) -> Result<Command<'a>, AllocError>
         ensures { (sub : App) → IsDraftOf sub self.entry → sub.top.is_plain ≡ true
             → IfOk result (λ c. app_of c ≡ with_subcommand (app_of command.entry) sub.top) }

@@ -7,6 +7,7 @@ mod argument;
 mod command;
 mod draft;
 mod refusal;
+mod shown_argument;
 mod viewing;
 
 pub use command::backfill_command;

@@ -12,7 +12,8 @@ use clap::Error;
 use clap::error::ErrorKind;
 use std::alloc::{AllocError, Global};
 
-/// The command of this name that has more to ask than `clap` does, and how its usage begins.
+/// The command `name`, one of those that refuse more than `clap` does, and how its usage begins; `clear` for any name
+/// not listed. Contracts say nothing of its words.
 fn command_and_usage<'a>(alloc: Global, name: &str) -> (Draft<'a>, &'static str) {
     match name {
         "list" => (list_command(alloc), "backfill list"),
@@ -27,7 +28,7 @@ fn command_and_usage<'a>(alloc: Global, name: &str) -> (Draft<'a>, &'static str)
     }
 }
 
-/// What is said of words that the command of this name doesn't take: `text`, and its usage.
+/// The error by which `clap` refuses a line of the command `name`: `text`, and the command's usage.
 pub fn refusal_of(
     alloc: Global,
     name: &str,

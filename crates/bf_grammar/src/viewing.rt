@@ -20,6 +20,7 @@ const EXPLAIN_EXAMPLES: &str = "Examples:\n\
 const ANSWERS_EXAMPLE: &str = "Example:\n\
     \x20 backfill answers examples/failed_day/report.txt > table.json";
 
+/// The flag `--states-only` of `page`, by which the report is left out of the page.
 fn states_only_flag<'a>(alloc: Global) -> Arg<'a>
     ensures { rule_of result ≡ states_only_rule }
 {
@@ -31,6 +32,7 @@ fn states_only_flag<'a>(alloc: Global) -> Arg<'a>
         .action(ArgAction::SetTrue)
 }
 
+/// The option `--journal` of `page`, which names a journal that has times.
 fn journal_option<'a>(alloc: Global) -> Arg<'a>
     ensures { rule_of result ≡ journal_rule }
 {
@@ -43,6 +45,7 @@ fn journal_option<'a>(alloc: Global) -> Arg<'a>
     )
 }
 
+/// The option `--run` of `explain`, the logical date of the run.
 fn run_option<'a>(alloc: Global) -> Arg<'a>
     ensures { rule_of result ≡ one_run_rule }
 {
@@ -54,6 +57,7 @@ fn run_option<'a>(alloc: Global) -> Arg<'a>
     )
 }
 
+/// The option `--task` of `explain`, the id of the task.
 fn task_option<'a>(alloc: Global) -> Arg<'a>
     ensures { rule_of result ≡ one_task_rule }
 {
@@ -66,6 +70,7 @@ fn task_option<'a>(alloc: Global) -> Arg<'a>
     )
 }
 
+/// The option `--index` of `explain`, the map index, at least -1, of one instance.
 fn index_option<'a>(alloc: Global) -> Arg<'a>
     ensures { rule_of result ≡ one_index_rule }
 {
@@ -79,7 +84,8 @@ fn index_option<'a>(alloc: Global) -> Arg<'a>
     .value_parser(value_parser!(i32).range(-1..))
 }
 
-/// A command over a graph and a report.
+/// The command `name`, with a graph file, `--zone-file` and a report for arguments. `report` is the help on the
+/// report; its own help begins with `about` and ends with `examples`.
 fn new_report_command<'a>(
     alloc: Global,
     name: &'a str,
@@ -94,6 +100,7 @@ fn new_report_command<'a>(
     ))
 }
 
+/// The command `page` as `clap` is told it.
 pub(crate) fn page_command<'a>(alloc: Global) -> Draft<'a>
     ensures { IsDraftOf page_app result }
 {
@@ -108,6 +115,7 @@ pub(crate) fn page_command<'a>(alloc: Global) -> Draft<'a>
     .arg(journal_option(alloc))
 }
 
+/// The command `explain` as `clap` is told it.
 pub(crate) fn explain_command<'a>(alloc: Global) -> Draft<'a>
     ensures { IsDraftOf explain_app result }
 {
@@ -123,6 +131,7 @@ pub(crate) fn explain_command<'a>(alloc: Global) -> Draft<'a>
     .arg(index_option(alloc))
 }
 
+/// The command `answers` as `clap` is told it.
 pub(crate) fn answers_command<'a>(alloc: Global) -> Draft<'a>
     ensures { IsDraftOf answers_app result }
 {

@@ -22,7 +22,8 @@ struct Climb {
     passed: Vec<usize>,
 }
 
-/// The place of the first upstream without rank.
+/// The index in `upstreams`, at or after `from`, of the first task without a rank in `ranks`; None where all have
+/// one.
 fn first_unranked_from(ranks: &[Option<u32>], upstreams: &[u32], from: usize) -> Option<usize>
     requires { (u : ℕ) → Contains upstreams.now u → u < length ranks.now }
     ensures { MatchOption result
@@ -38,6 +39,7 @@ fn first_unranked_from(ranks: &[Option<u32>], upstreams: &[u32], from: usize) ->
 }
 
 impl Climb {
+    /// A climb of a graph with `n` tasks, on which nothing is found yet.
     fn new(alloc: Global, n: usize) -> Result<Climb, OutOfMemory>
         ensures { IfOk result (λ c. (edges : List (Vec ℕ Global)) → length edges ≡ n
             → IsDown edges c) }
@@ -50,7 +52,8 @@ impl Climb {
         })
     }
 
-    /// Ranks a task, and before it those of its upstreams that have no rank; false where that comes upon a cycle.
+    /// Ranks the task `start`, which has no rank yet, and its ancestors that have none; false where they lie on a
+    /// cycle.
     fn rank_with_ancestors(
         &mut self,
         alloc: Global,
@@ -88,7 +91,8 @@ impl Climb {
     }
 }
 
-/// The rank of each task and which tasks reach it, if there is no cycle.
+/// The rank of each task and which tasks reach it; None where the edges have a cycle. `edges` has each task's
+/// upstreams.
 pub(crate) fn find_ranks_and_reach(
     alloc: Global,
     edges: &[Vec<u32>],

@@ -47,14 +47,14 @@ impl Model for Graph {
 }
 
 impl Graph {
-    /// The number of the task with an id.
+    /// The number of the task with an id, from 0 in file order; None where no task has it.
     pub fn number_of(&self, id: &str) -> Option<u32>
         ensures { result ≡ position (bytes_eq id.now) self.now.ids }
     {
         self.ids.number_of(id)
     }
 
-    /// The id of a task.
+    /// The id of the task with a number.
     pub fn task(&self, task: u32) -> &str
         requires { task < length self.now.upstreams }
         ensures { slice_get self.now.ids task ≡ Some result.now }
@@ -71,7 +71,7 @@ impl Graph {
         self.edges.len()
     }
 
-    /// The direct upstreams of a task, as `build` was given them.
+    /// The direct upstreams of a task, in the order in which `build` was given them.
     pub fn upstreams(&self, task: u32) -> &[u32]
         requires { task < length self.now.upstreams }
         ensures { result.now ≡ upstreams_of self.now.upstreams task }
@@ -94,7 +94,7 @@ impl Graph {
         self.leaves.as_slice()
     }
 
-    /// The number of edges of the longest path that ends in a task.
+    /// The number of edges of the longest path that ends in a task, so 0 for a task without upstreams.
     pub fn rank(&self, task: u32) -> u32
         requires { task < length self.now.upstreams }
         ensures { IsRank self.now.upstreams task result }
@@ -102,7 +102,7 @@ impl Graph {
         self.ranks[task as usize]
     }
 
-    /// Whether a path of one edge or more leads from a task to another.
+    /// Whether a path of one edge or more leads from the task `from` down to the task `to`.
     pub fn reaches(&self, from: u32, to: u32) -> bool
         requires from { from < length self.now.upstreams }
         requires to { to < length self.now.upstreams }
@@ -196,7 +196,7 @@ impl From<OutOfMemory> for GraphFault {
     }
 }
 
-/// The ranks of tasks that all have one.
+/// The ranks of tasks, which all have one (0 would stand for a missing one).
 fn unwrapped_ranks(alloc: Global, ranks: &[Option<u32>]) -> Result<Vec<u32>, OutOfMemory>
     ensures { IfOk result (λ v. v.items ≡ map (λ r. unwrap_or r 0) ranks.now) }
 {
@@ -206,8 +206,8 @@ fn unwrapped_ranks(alloc: Global, ranks: &[Option<u32>]) -> Result<Vec<u32>, Out
 impl Graph {
     ghost use Rattle.bf_graph.specs.Faults.{IsRightFault};
 
-    /// The graph of the tasks with these ids, in file order, and for each the numbers of its upstreams. It is
-    /// refused where the edges have a cycle.
+    /// The graph of the tasks with these ids, in file order, and for each the numbers of its upstreams. The fault
+    /// `Cycle` comes exactly where the edges have a cycle, which it names.
     pub fn build(
         alloc: Global,
         ids: Vec<String>,
@@ -231,7 +231,7 @@ impl Graph {
         Ok(Graph::from_ranks_and_reach(alloc, ids, upstreams, found)?)
     }
 
-    /// The graph of tasks whose ranks were found.
+    /// The graph of the tasks with these ids and upstreams, which have no cycle; `found` has their ranks and reach.
     fn from_ranks_and_reach(
         alloc: Global,
         ids: Vec<String>,
@@ -278,7 +278,7 @@ fn rank_and_task_pairs(alloc: Global, ranks: &[u32]) -> Result<Vec<(u32, u32)>, 
     )
 }
 
-/// The same pairs by rank, and those of one rank by task.
+/// The pairs of a rank and a task, sorted by rank, and those of one rank by task.
 fn sorted_by_rank(mut pairs: Vec<(u32, u32)>) -> Vec<(u32, u32)>
     ensures same { IsPermutation pairs.items result.items }
     ensures sorted { IsSorted pair_cmp result.items }
@@ -287,7 +287,7 @@ fn sorted_by_rank(mut pairs: Vec<(u32, u32)>) -> Vec<(u32, u32)>
     pairs
 }
 
-/// The tasks of these pairs.
+/// The tasks of pairs of a rank and a task, in order.
 fn tasks_of(alloc: Global, pairs: &[(u32, u32)]) -> Result<Vec<u32>, OutOfMemory>
     ensures { IfOk result (λ tasks. tasks.items ≡ map (λ p. p.1) pairs.now) }
 {

@@ -9,7 +9,7 @@ ghost use Rattle.bf_graph.specs.inner.Lookups.{AreDownstreamsBelow};
 use bf_value::OutOfMemory;
 use std::alloc::Global;
 
-/// Adds a task to others that don't come after it, unless it is there.
+/// Adds a task at the end of rising ones, none of which is greater, unless it is already the last.
 fn push_if_absent(tasks: &mut Vec<u32>, task: u32) -> Result<(), OutOfMemory>
     requires rising { IsStrictlyIncreasing tasks.old.items }
     requires last { All (λ t. t ≤ task) tasks.old.items }
@@ -25,7 +25,7 @@ fn push_if_absent(tasks: &mut Vec<u32>, task: u32) -> Result<(), OutOfMemory>
     Ok(())
 }
 
-/// Adds a task to the downstreams of its upstreams.
+/// Adds `task`, greater than all added before, to the list in `found` of each of its direct upstreams, once.
 fn push_as_downstream(
     edges: &[Vec<u32>],
     found: &mut Vec<Vec<u32>>,
@@ -43,7 +43,7 @@ fn push_as_downstream(
     Ok(())
 }
 
-/// For each task those of which it is a direct upstream.
+/// For each task those of which it is a direct upstream, in file order, each once.
 pub(crate) fn downstreams_of(
     alloc: Global,
     edges: &[Vec<u32>],
@@ -59,7 +59,7 @@ pub(crate) fn downstreams_of(
     Ok(found)
 }
 
-/// So many empty lists.
+/// `n` empty lists.
 pub(crate) fn empty_lists<T: Drop>(alloc: Global, n: usize) -> Result<Vec<Vec<T>>, OutOfMemory>
     ensures len { IfOk result (λ made. length made.items ≡ n) }
     ensures empty { IfOk result (λ made. All (λ list. list.items ≡ []) made.items) }
@@ -71,14 +71,14 @@ pub(crate) fn empty_lists<T: Drop>(alloc: Global, n: usize) -> Result<Vec<Vec<T>
     Ok(made)
 }
 
-/// Which of these lists are empty.
+/// A mark for each list: whether it is empty.
 fn marks_of_empty_lists(alloc: Global, lists: &[Vec<u32>]) -> Result<Vec<bool>, OutOfMemory>
     ensures { IfOk result (λ marks. marks.items ≡ map (λ v. length v.items == 0) lists.now) }
 {
     Ok(lists.iter().map(|list| list.is_empty()).collect(alloc)?)
 }
 
-/// The places that are marked.
+/// The indexes at which `marks` is true, in order.
 pub(crate) fn marked_places(alloc: Global, marks: &[bool]) -> Result<Vec<u32>, OutOfMemory>
     requires { length marks.now < 2 ^ 32 }
     ensures { IfOk result (λ places. IsRisingListOf (λ t. is_marked_in marks.now t
@@ -93,7 +93,7 @@ pub(crate) fn marked_places(alloc: Global, marks: &[bool]) -> Result<Vec<u32>, O
     Ok(places)
 }
 
-/// The tasks without downstreams.
+/// The tasks whose list of downstreams is empty, in file order.
 pub(crate) fn leaves_of(alloc: Global, downstreams: &[Vec<u32>]) -> Result<Vec<u32>, OutOfMemory>
     requires { length downstreams.now < 2 ^ 32 }
     ensures { IfOk result (λ leaves. (ups : List (List ℕ))
@@ -104,6 +104,7 @@ pub(crate) fn leaves_of(alloc: Global, downstreams: &[Vec<u32>]) -> Result<Vec<u
     marked_places(alloc, are_leaves.as_slice())
 }
 
+/// Whether the mark at the index `place` is set.
 fn is_marked_at(marks: &[bool], place: usize) -> bool
     requires { place < length marks.now }
     ensures { result ≡ is_marked_in marks.now place }
@@ -111,7 +112,7 @@ fn is_marked_at(marks: &[bool], place: usize) -> bool
     marks[place]
 }
 
-/// Which rows have a mark at a place.
+/// For each row its mark at the index `place`.
 pub(crate) fn column(
     alloc: Global,
     rows: &[Vec<bool>],

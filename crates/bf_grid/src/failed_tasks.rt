@@ -19,13 +19,14 @@ use std::alloc::Global;
 /// How many tasks are told.
 const MOST_TOLD: usize = 20;
 
-/// A task, and where the runs start in which an instance of it failed.
+/// A task, and the starts of the runs in which an instance of it failed.
 #[derive(Drop)]
 pub(crate) struct Failing {
     task: u32,
     starts: Vec<Moment>,
 }
 
+/// The starts of those of these runs in which an instance of a task failed, in their order.
 fn failed_starts(alloc: Global, runs: &[&RunReport], task: u32) -> Result<Vec<Moment>, OutOfMemory>
     ensures { IfOk result (λ starts. map (λ start. start.at.nanosecond) starts.items
         ≡ failed_starts_of (map (λ run. run.now) runs.now) task) }
@@ -39,7 +40,8 @@ fn failed_starts(alloc: Global, runs: &[&RunReport], task: u32) -> Result<Vec<Mo
     Ok(starts)
 }
 
-/// Where the first stands with fewer runs.
+/// The place in `found` of the first task that failed in fewer than `count` runs; the length of `found` where there
+/// is none.
 fn place_of(found: &[Failing], count: usize) -> usize
     ensures place { result ≡ first_fewer count found.now }
     ensures within { result ≤ length found.now }
@@ -52,7 +54,7 @@ fn place_of(found: &[Failing], count: usize) -> usize
     found.len()
 }
 
-/// Puts a task behind those that failed in as many runs or more.
+/// Inserts a task into `found`, behind those that failed in as many runs or more.
 fn insert_failing(found: &mut Vec<Failing>, failing: Failing) -> Result<(), OutOfMemory>
     ensures { OnOk result (map pair_of found.new.items
         ≡ placed (pair_of failing) (map pair_of found.old.items)) }
@@ -62,7 +64,7 @@ fn insert_failing(found: &mut Vec<Failing>, failing: Failing) -> Result<(), OutO
     Ok(())
 }
 
-/// The tasks in which something failed, those with the most such runs first.
+/// Those of these tasks that failed in some of these runs, those with the most such runs first.
 fn failing_among(
     alloc: Global,
     runs: &[&RunReport],
@@ -87,6 +89,7 @@ fn failing_among(
     Ok(found)
 }
 
+/// How many bytes the longest id of these failing tasks has; 0 where there is none.
 fn id_width(dag: &Dag, found: &[Failing]) -> usize
     ensures { result ≡ id_width_of dag.now (map pair_of found.now) }
 {
@@ -97,7 +100,7 @@ fn id_width(dag: &Dag, found: &[Failing]) -> usize
     longest
 }
 
-/// The length of `1 run` or `2 runs`, with this number.
+/// How many bytes the text `1 run` or `2 runs` has for `count` runs.
 fn runs_width(alloc: Global, count: usize) -> Result<usize, OutOfMemory>
     ensures { IfOk result (λ width. width ≡ length (count_text_of count (codes "run"))) }
 {
@@ -107,6 +110,8 @@ fn runs_width(alloc: Global, count: usize) -> Result<usize, OutOfMemory>
 }
 
 impl Failing {
+    /// Adds the line of a failing task, with its line feed: its id in `longest` bytes, in how many runs it failed in
+    /// `widest` bytes, and when these start.
     fn push_line(
         &self,
         alloc: Global,
@@ -130,6 +135,7 @@ impl Failing {
     }
 }
 
+/// Adds the lines of failing tasks, their ids in one column and their counts of runs in one of `widest` bytes.
 fn push_lines(
     alloc: Global,
     text: &mut Vec<u8>,
@@ -148,7 +154,7 @@ fn push_lines(
     Ok(())
 }
 
-/// Adds how many more there are than are told.
+/// Adds the line with how many of `count` failing tasks are behind the 20 that have a line; nothing where none is.
 fn push_further(alloc: Global, text: &mut Vec<u8>, count: usize) -> Result<(), OutOfMemory>
     ensures { OnOk result (text.new.items ≡ text.old.items ++ further_line count) }
 {
@@ -160,7 +166,8 @@ fn push_further(alloc: Global, text: &mut Vec<u8>, count: usize) -> Result<(), O
     push(text, b" more\n")
 }
 
-/// Adds the tasks that failed themselves, where there are.
+/// Adds a heading and the lines of those of these tasks that failed themselves in these runs, at most 20, those with
+/// the most such runs first; nothing where there are none.
 pub(crate) fn push_failing(
     alloc: Global,
     text: &mut Vec<u8>,

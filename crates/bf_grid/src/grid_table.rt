@@ -18,7 +18,7 @@ use jiff::Timestamp;
 use std::alloc::Global;
 
 impl Columns<'_> {
-    /// Where a column starts.
+    /// Where the first run of the column at `place` starts, from 0; at the Unix epoch where there is no such column.
     fn start(self, place: usize) -> Moment
         requires { place < self.count }
         ensures { result.at.nanosecond ≡ start_or
@@ -30,7 +30,7 @@ impl Columns<'_> {
         }
     }
 
-    /// Where each column starts.
+    /// Where the first run of each column starts, in order.
     fn starts(self, alloc: Global) -> Result<Vec<Moment>, OutOfMemory>
         ensures { IfOk result (λ starts. map (λ start. start.at.nanosecond) starts.items
             ≡ column_starts self.entry.count self.entry.each
@@ -45,7 +45,7 @@ impl Columns<'_> {
 }
 
 impl Layout {
-    /// A line that begins where the columns do.
+    /// The beginning of a line of labels: spaces up to the first column.
     fn margin(self, alloc: Global) -> Result<Vec<u8>, OutOfMemory>
         ensures { IfOk result (λ line. line.items ≡ margin self.names) }
     {
@@ -54,7 +54,8 @@ impl Layout {
         Ok(line)
     }
 
-    /// Adds the lines above the rows.
+    /// Adds the three lines above the rows: the labels of the columns, which start at these moments, and the heads of
+    /// the sums.
     fn push_labels(
         self,
         alloc: Global,
@@ -90,6 +91,7 @@ pub(crate) struct Table<'a> {
 }
 
 impl Table<'_> {
+    /// Adds the row of a task, with its line feed: its id, its marks and its sums.
     fn push_task(self, alloc: Global, text: &mut Vec<u8>, task: u32) -> Result<(), OutOfMemory>
         ensures { OnOk result (text.new.items ≡ text.old.items
             ++ row_in self.entry task) }
@@ -101,6 +103,7 @@ impl Table<'_> {
             .push_row(alloc, text, name, marks.as_slice(), tally)
     }
 
+    /// Adds the rows of all tasks that are shown.
     fn push_tasks(self, alloc: Global, text: &mut Vec<u8>) -> Result<(), OutOfMemory>
         ensures { OnOk result (text.new.items ≡ text.old.items
             ++ flat_map (row_in self.entry) self.entry.tasks.now) }
@@ -111,7 +114,7 @@ impl Table<'_> {
         Ok(())
     }
 
-    /// Adds labels, rows and the legend.
+    /// Adds the table: its labels, the row of the runs' states, the rows of the tasks, and the legend.
     pub(crate) fn push(self, alloc: Global, text: &mut Vec<u8>) -> Result<(), OutOfMemory>
         ensures { OnOk result (text.new.items ≡ text.old.items
             ++ text_in self.entry) }

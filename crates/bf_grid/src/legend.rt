@@ -18,6 +18,7 @@ const MARKS: [Mark; 6] = [
     Mark::NoStatus,
 ];
 
+/// What a mark stands for, as a word.
 fn meaning_of(mark: Mark) -> &'static str
     ensures { result.now ≡ meaning mark }
 {
@@ -31,7 +32,7 @@ fn meaning_of(mark: Mark) -> &'static str
     }
 }
 
-/// Whether a task has this mark in one of the runs.
+/// Whether a task has this mark in one of these runs.
 fn has_mark(alloc: Global, runs: &[&RunReport], mark: Mark, task: u32) -> Result<bool, OutOfMemory>
     ensures { IfOk result (λ has_it. has_it
         ≡ has_mark_in (map (λ run. run.now) runs.now) mark task) }
@@ -44,6 +45,7 @@ fn has_mark(alloc: Global, runs: &[&RunReport], mark: Mark, task: u32) -> Result
     Ok(false)
 }
 
+/// Whether one of these tasks has this mark in one of these runs.
 fn is_seen(
     alloc: Global,
     runs: &[&RunReport],
@@ -61,7 +63,7 @@ fn is_seen(
     Ok(false)
 }
 
-/// Those of the marks that are there.
+/// Those of these marks, in their order, that one of these tasks has in one of these runs.
 fn seen_among(
     alloc: Global,
     runs: &[&RunReport],
@@ -80,6 +82,7 @@ fn seen_among(
     Ok(found)
 }
 
+/// Adds a mark's letter, in its colour where `colored`, and what it stands for, as `F failed`.
 fn push_meaning(text: &mut Vec<u8>, colored: bool, mark: Mark) -> Result<(), OutOfMemory>
     ensures { OnOk result (text.new.items ≡ text.old.items ++ explained colored mark) }
 {
@@ -88,6 +91,7 @@ fn push_meaning(text: &mut Vec<u8>, colored: bool, mark: Mark) -> Result<(), Out
     push(text, meaning_of(mark).as_bytes())
 }
 
+/// Adds the letter of each mark, in its colour where `colored`, and what it stands for, two spaces apart.
 fn push_meanings(text: &mut Vec<u8>, colored: bool, marks: &[Mark]) -> Result<(), OutOfMemory>
     ensures { OnOk result (text.new.items ≡ text.old.items ++ legend colored marks.now) }
 {
@@ -100,7 +104,7 @@ fn push_meanings(text: &mut Vec<u8>, colored: bool, marks: &[Mark]) -> Result<()
     Ok(())
 }
 
-/// Adds what the marks mean that are there.
+/// Adds the line, with its line feed, on what the marks stand for that these tasks have in these runs.
 pub(crate) fn push_legend(
     alloc: Global,
     text: &mut Vec<u8>,

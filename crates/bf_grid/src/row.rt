@@ -20,7 +20,7 @@ fn trimmed(line: &[u8]) -> &[u8]
     &line[..end]
 }
 
-/// Adds a line.
+/// Adds a line without the spaces at its end, and a line feed.
 pub(crate) fn push_line(text: &mut Vec<u8>, shown: &[u8]) -> Result<(), OutOfMemory>
     ensures { OnOk result (text.new.items ≡ text.old.items ++ line shown.now) }
 {
@@ -28,6 +28,7 @@ pub(crate) fn push_line(text: &mut Vec<u8>, shown: &[u8]) -> Result<(), OutOfMem
     push(text, b"\n")
 }
 
+/// The mark of the state of a run.
 fn state_mark(state: RunState) -> Mark
     ensures { result ≡ state_mark_of state }
 {
@@ -37,7 +38,7 @@ fn state_mark(state: RunState) -> Mark
     }
 }
 
-/// The worst state of the runs of a column.
+/// The mark of the worst state of these runs, which are of a column; skipped where there are none.
 fn worst_state_mark(runs: &[&RunReport]) -> Mark
     ensures { result ≡ column_state (map (λ run. run.now) runs.now) }
 {
@@ -48,7 +49,7 @@ fn worst_state_mark(runs: &[&RunReport]) -> Mark
     worst
 }
 
-/// The runs that are shown, so many a column.
+/// The runs that are shown, `each` a column, in `count` columns; the last may have fewer.
 #[derive(Clone, Copy)]
 pub(crate) struct Columns<'a> {
     pub(crate) runs: &'a [&'a RunReport],
@@ -58,7 +59,7 @@ pub(crate) struct Columns<'a> {
 }
 
 impl<'a> Columns<'a> {
-    /// The runs of a column.
+    /// The runs of the column at `place`, from 0.
     pub(crate) fn at(self, place: usize) -> &'a [&'a RunReport]
         requires { place < self.count }
         ensures { map (λ run. run.now) result.now
@@ -69,7 +70,7 @@ impl<'a> Columns<'a> {
         &self.runs[first..last]
     }
 
-    /// The marks of a task.
+    /// The worst mark of a task in each column, in order.
     pub(crate) fn marks(self, alloc: Global, task: u32) -> Result<Vec<Mark>, OutOfMemory>
         ensures { IfOk result (λ marks. marks.items ≡ by_column self.entry.count self.entry.each
             (column_mark task) (map (λ run. run.now) self.entry.runs.now)) }
@@ -81,7 +82,7 @@ impl<'a> Columns<'a> {
         Ok(marks)
     }
 
-    /// The marks of the runs themselves.
+    /// The mark of the worst run state in each column, in order.
     pub(crate) fn states(self, alloc: Global) -> Result<Vec<Mark>, OutOfMemory>
         ensures { IfOk result (λ marks. marks.items ≡ by_column self.entry.count self.entry.each
             column_state (map (λ run. run.now) self.entry.runs.now)) }
@@ -105,7 +106,7 @@ pub(crate) struct Layout {
 }
 
 impl Layout {
-    /// Adds a row.
+    /// Adds a row of the table, with its line feed: a name, cut to its column, its marks and the sums of its tally.
     pub(crate) fn push_row(
         self,
         alloc: Global,

@@ -10,6 +10,8 @@ use bf_report::RunReport;
 use bf_value::OutOfMemory;
 use std::alloc::Global;
 
+/// Whether the view shows a run: it starts in the view's range and, where only failures are shown, something in it
+/// failed, is upstream_failed or has no status.
 fn is_shown_run(alloc: Global, view: &View, run: &RunReport) -> Result<bool, OutOfMemory>
     ensures { IfOk result (λ shown. shown ≡ is_shown_run_in view.now run.now) }
 {
@@ -22,7 +24,7 @@ fn is_shown_run(alloc: Global, view: &View, run: &RunReport) -> Result<bool, Out
     Ok(run_tally(alloc, run)?.is_bad())
 }
 
-/// The runs that are shown.
+/// Those of these runs that the view shows, in their order.
 pub(crate) fn shown_runs<'a>(
     alloc: Global,
     view: &View,
@@ -40,6 +42,8 @@ pub(crate) fn shown_runs<'a>(
     Ok(found)
 }
 
+/// Whether the view shows a task beside these runs: any, or where only failures are shown one that in some of them
+/// failed, is upstream_failed or has no status.
 fn is_shown_task(
     alloc: Global,
     view: &View,
@@ -55,7 +59,7 @@ fn is_shown_task(
     Ok(tally_in(alloc, runs, task)?.is_bad())
 }
 
-/// Those of the tasks that are shown beside these runs.
+/// Those of these tasks that the view shows beside these runs, in their order.
 pub(crate) fn shown_tasks(
     alloc: Global,
     view: &View,
@@ -74,7 +78,7 @@ pub(crate) fn shown_tasks(
     Ok(found)
 }
 
-/// The sums of all tasks in these runs.
+/// The tally of all these tasks in these runs.
 pub(crate) fn total_in(
     alloc: Global,
     runs: &[&RunReport],
@@ -89,7 +93,7 @@ pub(crate) fn total_in(
     Ok(total)
 }
 
-/// The id of a task.
+/// The id of a task; empty where there is no such task.
 pub(crate) fn id_of(dag: &Dag, task: u32) -> &str
     ensures { result.now ≡ (task_of dag.now task).id }
 {
@@ -99,7 +103,7 @@ pub(crate) fn id_of(dag: &Dag, task: u32) -> &str
     }
 }
 
-/// The length of the longest id, and at least 3.
+/// How many bytes the longest id of these tasks has; at least 3.
 fn longest_id_length(dag: &Dag, tasks: &[u32]) -> usize
     ensures longest { result ≡ longest_id_length_of (names_of dag.now tasks.now) }
     ensures some { 3 ≤ result }
@@ -111,7 +115,8 @@ fn longest_id_length(dag: &Dag, tasks: &[u32]) -> usize
     longest
 }
 
-/// How wide names are.
+/// How many bytes wide the column of names is: as the longest id, but at most a third of the grid's width, or 12
+/// where that is more.
 pub(crate) fn name_width(dag: &Dag, tasks: &[u32], width: usize) -> usize
     ensures width { result ≡ name_width_of width (names_of dag.now tasks.now) }
     ensures some { 2 ≤ result }

@@ -9,7 +9,7 @@ use bf_report::RunReport;
 use bf_value::OutOfMemory;
 use std::alloc::Global;
 
-/// Adds the first and the last start, where there are runs.
+/// Adds the starts of the first and the last of these runs, two spaces before them; nothing where there are no runs.
 fn push_dates(text: &mut Vec<u8>, runs: &[RunReport]) -> Result<(), OutOfMemory>
     ensures { OnOk result (text.new.items ≡ text.old.items ++ dates runs.now) }
 {
@@ -22,7 +22,8 @@ fn push_dates(text: &mut Vec<u8>, runs: &[RunReport]) -> Result<(), OutOfMemory>
     push_moment(text, last.interval.start)
 }
 
-/// Adds the first line: the dag id, the first and the last start, how many runs there are, and how many failed.
+/// Adds the first line, with its line feed: the dag id, the first and the last start, how many runs there are, and
+/// how many failed.
 pub(crate) fn push_head(
     alloc: Global,
     text: &mut Vec<u8>,
@@ -49,6 +50,7 @@ pub(crate) struct Shown {
     pub(crate) all: usize,
 }
 
+/// Adds how many are shown of how many, as `2 of 5 runs` for the noun `run`.
 fn push_shown_count(
     alloc: Global,
     text: &mut Vec<u8>,
@@ -63,6 +65,7 @@ fn push_shown_count(
     push_counted_noun(alloc, text, shown.all as u64, noun)
 }
 
+/// Adds the line, with its line feed, as `shown: 2 of 5 runs, 3 of 7 tasks`.
 fn push_shown_line(
     alloc: Global,
     text: &mut Vec<u8>,
@@ -79,7 +82,7 @@ fn push_shown_line(
     push(text, b"\n")
 }
 
-/// Adds how many runs and tasks are shown, where some are left out.
+/// Adds the line on how many runs and tasks are shown; nothing where all are.
 pub(crate) fn push_left_out(
     alloc: Global,
     text: &mut Vec<u8>,
@@ -95,6 +98,7 @@ pub(crate) fn push_left_out(
     push_shown_line(alloc, text, runs, tasks)
 }
 
+/// Adds the line, with its line feed, that a column is `each` runs and shows the worst of them.
 fn push_runs_a_column_line(
     alloc: Global,
     text: &mut Vec<u8>,
@@ -108,7 +112,7 @@ fn push_runs_a_column_line(
     push(text, b" runs, and shows the worst of them\n")
 }
 
-/// Adds how many runs a column is, where that is more than one.
+/// Adds the line that a column is `each` runs; nothing where it is one.
 pub(crate) fn push_runs_a_column(
     alloc: Global,
     text: &mut Vec<u8>,

@@ -21,7 +21,8 @@ use bf_value::Text;
 use bf_zone::MOST_FILE_BYTES;
 use std::alloc::Global;
 
-/// Why there is no answer where a path's file isn't there.
+/// The fault that a command tells where the file at a path can't be read; want of memory stays that, without the
+/// path.
 fn fault_at(path: String, fault: SourceFault) -> CommandFault
     ensures { result ≡ of_source (string_bytes path) fault }
 {
@@ -31,7 +32,8 @@ fn fault_at(path: String, fault: SourceFault) -> CommandFault
     }
 }
 
-/// The bytes of a file. Of one with more than `longest` so many and more are read that its reader sees it.
+/// Reads the first `longest` + 1 bytes of a file, so that its reader sees where it is too long; `CannotRead` where it
+/// can't be read.
 fn read_bytes_up_to<S: Source>(
     alloc: Global,
     path: String,
@@ -51,6 +53,8 @@ fn read_bytes_up_to<S: Source>(
     }
 }
 
+/// Reads a graph file: at most one byte more than it may have, by which its reader sees that it is too long.
+/// `CannotRead` where it can't be read.
 fn read_graph_bytes<S: Source>(
     alloc: Global,
     path: String,
@@ -69,6 +73,8 @@ fn read_graph_bytes<S: Source>(
     read_bytes_up_to(alloc, path, MOST_BYTES, files)
 }
 
+/// Reads a table file: at most one byte more than it may have, by which its reader sees that it is too long.
+/// `CannotRead` where it can't be read.
 fn read_table_bytes<S: Source>(
     alloc: Global,
     path: String,
@@ -84,6 +90,8 @@ fn read_table_bytes<S: Source>(
     read_bytes_up_to(alloc, path, LONGEST_TABLE, files)
 }
 
+/// Reads a zone file: at most one byte more than it may have, by which its reader sees that it is too long. None
+/// where none is named; `CannotRead` where it can't be read.
 fn read_zone_bytes<S: Source>(
     alloc: Global,
     path: Option<String>,
@@ -107,7 +115,8 @@ fn read_zone_bytes<S: Source>(
     }
 }
 
-/// The bytes of a table where one is named.
+/// Reads a table file: at most one byte more than it may have, by which its reader sees that it is too long. None
+/// where none is named; `CannotRead` where it can't be read.
 pub fn read_named_table<S: Source>(
     alloc: Global,
     path: Option<String>,
@@ -131,7 +140,8 @@ pub fn read_named_table<S: Source>(
     }
 }
 
-/// The bytes of a seeds file. Of one that is longer than it may be so many and more are read that its reader sees it.
+/// Reads a seeds file: at most one byte more than it may have, by which its reader sees that it is too long.
+/// `CannotRead` where it can't be read.
 pub fn read_seeds_bytes<S: Source>(
     alloc: Global,
     path: String,
@@ -146,7 +156,7 @@ pub fn read_seeds_bytes<S: Source>(
     read_bytes_up_to(alloc, path, LONGEST_FILE, files)
 }
 
-/// The bytes of a file, however many they are: memory has no room for more.
+/// Reads a file to its end, however many bytes it has; `CannotRead` where it can't be read.
 fn read_whole_file<S: Source>(
     alloc: Global,
     path: String,
@@ -162,7 +172,7 @@ fn read_whole_file<S: Source>(
     read_bytes_up_to(alloc, path, isize::MAX as usize, files)
 }
 
-/// The bytes of a journal where one is named.
+/// Reads a journal to its end; None where none is named, `CannotRead` where it can't be read.
 pub fn read_named_journal<S: Source>(
     alloc: Global,
     path: Option<String>,
@@ -186,7 +196,8 @@ pub fn read_named_journal<S: Source>(
     }
 }
 
-/// The report that a file holds. It is looked at as it is read, and read no further than its first fault.
+/// Reads a report file and gives the report. It is checked as it is read, and read no further than its first fault;
+/// `CannotRead` where it can't be opened or read.
 pub fn read_report_file<S: Source>(
     alloc: Global,
     path: String,
@@ -220,7 +231,7 @@ pub struct GraphFiles {
 }
 
 impl GraphFiles {
-    /// The zone file's bytes.
+    /// The bytes of the zone file; None where none was named.
     pub fn zone_file(&self) -> Option<&[u8]>
         ensures { option_map (λ s. s.now) result ≡ bytes_of self.now.zone_file }
     {
@@ -228,7 +239,7 @@ impl GraphFiles {
     }
 }
 
-/// Reads the graph file, and then the zone file where one is named.
+/// Reads the graph file, and then the zone file where one is named; a fault for the first that can't be read.
 pub fn read_graph_files<S: Source>(
     alloc: Global,
     asked: GraphAsked,
@@ -254,7 +265,8 @@ pub struct FilesWithTable {
     pub table: Vec<u8>,
 }
 
-/// Reads the graph file, the zone file where one is named, and then the table.
+/// Reads the graph file, the zone file where one is named, and then the table file at the path `table`; a fault for
+/// the first that can't be read.
 pub fn read_files_with_table<S: Source>(
     alloc: Global,
     asked: GraphAsked,

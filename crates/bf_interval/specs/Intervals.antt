@@ -53,11 +53,11 @@ IsAnswer spec zone from to (Err TooManyRuns) =
 IsAnswer spec zone from to (Err OutOfMemory) = Unit {0}
 
 -- the number of the refusal, which want of memory doesn't have
-abbrev pub fault_number : IntervalFault → Option ℕ
-fault_number OutsideYears = Some 25
-fault_number RangeReversed = Some 26
-fault_number TooManyRuns = Some 27
-fault_number OutOfMemory = None
+abbrev pub refusal_number_of : IntervalFault → Option ℕ
+refusal_number_of OutsideYears = Some 25
+refusal_number_of RangeReversed = Some 26
+refusal_number_of TooManyRuns = Some 27
+refusal_number_of OutOfMemory = None
 
 -- the words
 abbrev pub fault_text : IntervalFault → List ℕ

@@ -1,6 +1,6 @@
 //! Why a range has no listing.
 ghost use Rattle.std.specs.Prelude.{◌≡◌};
-ghost use Rattle.bf_interval.specs.Intervals.{fault_number};
+ghost use Rattle.bf_interval.specs.Intervals.{refusal_number_of};
 ghost use Rattle.bf_interval.specs.declared.fault.IntervalFault.TheVariants.{OutOfMemory};
 
 use std::alloc::{AllocError, AllocFailed};
@@ -20,9 +20,9 @@ pub enum IntervalFault {
 }
 
 impl IntervalFault {
-    /// The number of the refusal, which want of memory doesn't have.
+    /// The number of the refusal (docs/FORMATS.md), 25 to 27; None for want of memory.
     pub fn refusal_number(self) -> Option<u32>
-        ensures { result ≡ fault_number self }
+        ensures { result ≡ refusal_number_of self }
     {
         match self {
             IntervalFault::OutsideYears => Some(25),

@@ -22,7 +22,7 @@ pub const MOST_RUNS: usize = 4_096;
 /// A second, in nanoseconds.
 const SECOND: u64 = 1_000_000_000;
 
-/// The first whole second that isn't before the moment.
+/// The first whole second since 1970 that isn't before the moment.
 fn second_rounded_up(moment: Timestamp) -> u64
     requires { IsInYears moment.nanosecond }
     ensures rounded { (k : ℕ) → (result ≤ k) ↔ (moment.nanosecond ≤ℤ seconds k) }
@@ -31,7 +31,7 @@ fn second_rounded_up(moment: Timestamp) -> u64
     (moment.as_nanosecond() as u64).div_ceil(SECOND)
 }
 
-/// The last whole second that isn't after the moment.
+/// The last whole second since 1970 that isn't after the moment.
 fn second_rounded_down(moment: Timestamp) -> u64
     requires { IsInYears moment.nanosecond }
     ensures { (k : ℕ) → (k ≤ result) ↔ (seconds k ≤ℤ moment.nanosecond) }
@@ -39,7 +39,7 @@ fn second_rounded_down(moment: Timestamp) -> u64
     moment.as_nanosecond() as u64 / SECOND
 }
 
-/// The moment of a second since 1970.
+/// The moment so many seconds after 1970-01-01T00:00Z.
 fn moment_of_second(second: u64) -> Timestamp
     requires { second ≤ 253_402_207_200 }
     ensures { result.nanosecond ≡ seconds second }
@@ -50,7 +50,8 @@ fn moment_of_second(second: u64) -> Timestamp
     moment
 }
 
-/// Each fire with the next one, as long as the first isn't after `to`.
+/// A data interval from each of `fires`, in seconds since 1970, to the next, of those that start by the second `to`,
+/// included; none of fewer than two fires, `TooManyRuns` of more than `MOST_RUNS` data intervals.
 fn intervals_between_fires(
     alloc: Global,
     fires: &[u64],
@@ -80,12 +81,12 @@ fn intervals_between_fires(
     Ok(found)
 }
 
-/// The data intervals whose start isn't before `from` nor after `to`, in order; none where the schedule
-/// never fires. Refused is, in this order: a moment outside the years, `from` after `to`, and a range of
-/// more than `MOST_RUNS` data intervals.
+/// The data intervals whose start isn't before `from` nor after `to`, in order; none where the schedule never fires.
+/// A fault comes, in this order, for a moment outside the years 1970 to 2199, `from` after `to`, and more than
+/// `MOST_RUNS` data intervals.
 ///
-/// Source: Airflow's "Data Interval" and crontab(5). What becomes of minutes that the clock jumps over or
-/// shows twice is our own choice, and so is the greatest number.
+/// Source: Airflow's "Data Interval" and crontab(5). What becomes of minutes that the clock jumps over or shows twice
+/// is our own choice, and so is the greatest number.
 pub fn intervals(
     alloc: Global,
     spec: &CronSpec,

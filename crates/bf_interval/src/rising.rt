@@ -5,7 +5,7 @@ ghost use Rattle.bf_interval.specs.Search.{Adds};
 
 use std::alloc::AllocError;
 
-/// Puts a number into its place, if it isn't there.
+/// Inserts a number among rising ones, in order; where it is already one of them, nothing changes.
 pub fn insert_in_order(numbers: &mut Vec<u64>, number: u64) -> Result<(), AllocError>
     requires { IsStrictlyIncreasing numbers.old.items }
     ensures rising { IsStrictlyIncreasing numbers.new.items }
@@ -21,7 +21,7 @@ pub fn insert_in_order(numbers: &mut Vec<u64>, number: u64) -> Result<(), AllocE
     }
 }
 
-/// The place of the first number above `limit`, which is the length where none is.
+/// The index of the first of rising numbers above `limit`, which is the length where there is none.
 pub fn place_above(numbers: &[u64], limit: u64) -> usize
     requires { IsStrictlyIncreasing numbers.now }
     ensures within { result ≤ length numbers.now }

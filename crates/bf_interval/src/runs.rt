@@ -41,7 +41,8 @@ impl Model for Runs {
 }
 
 impl Runs {
-    /// A run for each data interval that `intervals` lists, or its refusal.
+    /// A run for each data interval that starts from `from` to `to`, both included, in order; or the fault of
+    /// `intervals`.
     pub fn in_range(
         alloc: Global,
         spec: &CronSpec,
@@ -56,7 +57,7 @@ impl Runs {
         Ok(Runs { intervals })
     }
 
-    /// The runs of these data intervals.
+    /// The runs of these data intervals, which are in order, at most `MOST_RUNS` and in the years of runs.
     pub fn from_intervals(intervals: Vec<Interval>) -> Runs
         requires { AreOfRuns intervals.items }
         ensures { result ≡ intervals.items }
@@ -64,7 +65,8 @@ impl Runs {
         Runs { intervals }
     }
 
-    /// One run, whose data interval starts and ends at a moment of the years.
+    /// One run, whose data interval starts and ends at a moment; `OutsideYears` where that isn't in the years of
+    /// runs.
     pub fn single_at(alloc: Global, moment: Timestamp) -> Result<Runs, IntervalFault>
         requires { IsInYears moment.nanosecond → IsWhole moment.nanosecond }
         ensures ok { IfOk result (λ runs.
@@ -104,6 +106,7 @@ impl Runs {
 impl RunCount for Runs {
     ghost runs = { λ runs. length runs };
 
+    /// How many runs there are.
     fn count(&self) -> usize {
         Runs::count(self)
     }

@@ -10,8 +10,8 @@ pub const FIRST_NANOSECOND: i128 = 0;
 /// 2199-12-31T23:59:59Z, in nanoseconds since 1970-01-01T00:00:00Z.
 pub const LAST_NANOSECOND: i128 = 7_258_118_399_000_000_000;
 
-/// Whether a moment lies from 1970-01-01T00:00:00Z to 2199-12-31T23:59:59Z, as a run's logical date does (our own
-/// choice of years).
+/// Whether a moment lies from 1970-01-01T00:00:00Z to 2199-12-31T23:59:59Z, both included, as a run's logical date
+/// does (our own choice of years).
 pub fn is_in_years(at: Timestamp) -> bool
     ensures { IsTrue result ↔ IsInYears at.nanosecond }
 {

@@ -90,10 +90,10 @@ IsFault dag intervals head bytes OutOfMemory = Unit {0}
 -- ---- refusals
 
 -- the number of the refusal, which want of memory doesn't have
-abbrev pub fault_number : JournalFault → Option ℕ
-fault_number (BadRecord number) = Some 33
-fault_number Mismatch = Some 43
-fault_number OutOfMemory = None
+abbrev pub refusal_number_of : JournalFault → Option ℕ
+refusal_number_of (BadRecord number) = Some 33
+refusal_number_of Mismatch = Some 43
+refusal_number_of OutOfMemory = None
 
 -- the words
 abbrev pub fault_text : JournalFault → List ℕ

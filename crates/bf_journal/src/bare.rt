@@ -28,13 +28,14 @@ fn is_plain(byte: u8) -> bool
     byte != b'"' && byte != b'\\' && byte >= 32
 }
 
+/// Whether each of these bytes stands for itself in JSON.
 fn are_plain(bytes: &[u8]) -> bool
     ensures { result ≡ list_all is_plain_byte bytes.now }
 {
     bytes.iter().all(|byte| is_plain(*byte))
 }
 
-/// The text whose JSON this is.
+/// The text whose JSON this is, where no byte of it is escaped. None tells nothing: there may be a text.
 #[tactic(auto, using(crate::proofs::Pieces::escape_plain))]
 fn text_in(json: &[u8]) -> Option<&str>
     ensures text { IfSome result (λ t. json.now ≡ quoted t.now) }
@@ -47,7 +48,7 @@ fn text_in(json: &[u8]) -> Option<&str>
     std::str::from_utf8(bytes).ok()
 }
 
-/// The number whose JSON this is.
+/// The whole number whose JSON this is, of 64 bits. None tells nothing: there may be a number.
 fn number_in(json: &[u8]) -> Option<i64>
     ensures { IfSome result (λ n. FitsSigned w64 n × (json.now ≡ signed_decimal n)) }
 {
@@ -63,7 +64,8 @@ fn number_in(json: &[u8]) -> Option<i64>
     Some(number)
 }
 
-/// The name of the try whose record begins so, and what stands behind its name.
+/// The name of the try whose record begins so, and the record's bytes after it. None tells nothing: the line may be a
+/// record all the same.
 fn name_at_front<'l>(plan: &Plan, runs: &Runs, line: &'l [u8]) -> Option<(JobName, &'l [u8])>
     ensures { IfSome result (λ p. BeginsRecord plan.now.dag runs.now line.entry.now p.0 p.1.now) }
 {
@@ -84,7 +86,8 @@ fn name_at_front<'l>(plan: &Plan, runs: &Runs, line: &'l [u8]) -> Option<(JobNam
     Some((name, fields))
 }
 
-/// How a try ended that pushed nothing and was given nothing, and what stands behind that.
+/// How a try ended that was given nothing and pushed nothing, and what follows in `fields`, the bytes after its name.
+/// None tells nothing.
 fn bare_outcome_in(fields: &[u8]) -> Option<(Outcome, &[u8])>
     ensures pushed { IfSome result (λ p. pushed_by p.0 ≡ None) }
     ensures fields { IfSome result
@@ -100,7 +103,7 @@ fn bare_outcome_in(fields: &[u8]) -> Option<(Outcome, &[u8])>
     Some((Outcome::Skipped, stamp))
 }
 
-/// The numbers of a stamp that ends a record.
+/// The three numbers, start, end and exit code, of the stamp that ends a record. None tells nothing.
 fn stamp_in(text: &[u8]) -> Option<(i64, i64, i64)>
     ensures { IfSome result (λ s. IsStamp text.now s.0 s.1 s.2) }
 {
@@ -110,7 +113,8 @@ fn stamp_in(text: &[u8]) -> Option<(i64, i64, i64)>
     Some((number_in(start)?, number_in(end)?, number_in(code)?))
 }
 
-/// The try whose bare record the line is, as it is written.
+/// The try whose bare record a line is, as it is written. None tells nothing: `told_try_in` then reads the line in
+/// full.
 pub(crate) fn bare_try_in(
     alloc: Global,
     plan: &Plan,

@@ -8,7 +8,7 @@ use std::io;
 
 /// A device that can drop the last of the bytes that it was given.
 pub trait Cuttable: Durable {
-    /// Drops all bytes but the first so many.
+    /// Drops all bytes of the device but the first `count`; where it halts, none is dropped.
     fn cut(&mut self, count: usize) -> Result<(), Halt>
         ensures ok { OnOk result (Self.written self.new
             ≡ option_map (take count) (Self.written self.old)) }
@@ -16,6 +16,7 @@ pub trait Cuttable: Durable {
 }
 
 impl<F: io::Write + OpenFile + Drop> Cuttable for Output<F> {
+    /// Sets the length of the file to `count` bytes.
     fn cut(&mut self, count: usize) -> Result<(), Halt> {
         match self.inner.set_len(count as u64) {
             Ok(()) => Ok(()),
@@ -24,8 +25,8 @@ impl<F: io::Write + OpenFile + Drop> Cuttable for Output<F> {
     }
 }
 
-/// Drops all bytes but the first so many, and says whether it was done. It gives up where that fails, and at the 1,001st
-/// interruption.
+/// Drops all bytes of the device but the first `count`. False, and none is dropped, where that fails, and at the
+/// 1,001st interruption.
 pub(crate) fn try_cut<D: Cuttable>(device: &mut D, count: usize) -> bool
     ensures cut { result ≡ true → D.written device.new
         ≡ option_map (take count) (D.written device.old) }

@@ -7,12 +7,13 @@ use std::io;
 
 /// A device that can see to it that what was written outlasts a power cut. Contracts claim nothing of that.
 pub trait Durable: Write {
-    /// Returns once all that was written before outlasts a power cut.
+    /// Returns once all that was written before outlasts a power cut, or halts.
     fn sync(&mut self) -> Result<(), Halt>
         ensures { Self.written self.new ≡ Self.written self.old };
 }
 
 impl<F: io::Write + OpenFile + Drop> Durable for Output<F> {
+    /// Syncs the bytes of the file to its disk.
     fn sync(&mut self) -> Result<(), Halt> {
         match self.inner.sync_data() {
             Ok(()) => Ok(()),
@@ -23,12 +24,13 @@ impl<F: io::Write + OpenFile + Drop> Durable for Output<F> {
 
 /// For tests: what stands in memory outlasts nothing.
 impl Durable for Memory {
+    /// Does nothing: a buffer in memory has no disk.
     fn sync(&mut self) -> Result<(), Halt> {
         Ok(())
     }
 }
 
-/// Syncs, and says whether it was done. It gives up where that fails, and at the 1,001st interruption.
+/// Syncs the device, again after each interruption; false where that fails, and at the 1,001st interruption.
 pub(crate) fn try_sync<D: Durable>(device: &mut D) -> bool
     ensures { D.written device.new ≡ D.written device.old }
 {

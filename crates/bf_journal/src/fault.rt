@@ -18,11 +18,11 @@ pub enum JournalFault {
 }
 
 impl JournalFault {
-    ghost use Rattle.bf_journal.specs.Found.{fault_number};
+    ghost use Rattle.bf_journal.specs.Found.{refusal_number_of};
 
-    /// The number of the refusal, which want of memory doesn't have.
+    /// The number of the refusal (docs/FORMATS.md), 33 or 43; None for want of memory.
     pub fn refusal_number(self) -> Option<u32>
-        ensures { result ≡ fault_number self }
+        ensures { result ≡ refusal_number_of self }
     {
         match self {
             JournalFault::BadRecord(_) => Some(33),
@@ -38,6 +38,7 @@ impl fmt::Display for JournalFault {
 
     ghost output = { λ fault. Some (fault_text fault) };
 
+    /// Writes the words of the fault, as `bad record: 3`.
     fn fmt<W: fmt::Write>(&self, f: &mut fmt::Formatter<W>) -> fmt::Result {
         match self {
             JournalFault::BadRecord(number) => write!(f, "bad record: {number}"),

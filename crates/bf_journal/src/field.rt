@@ -11,7 +11,7 @@ use bf_value::{OutOfMemory, Xval};
 use bf_xcom::{Outcome, Pulled};
 use std::alloc::Global;
 
-/// The text at a place.
+/// The text in the field at the index `at`; None where it is no text, or there is no such field.
 pub(crate) fn text_at(fields: &[Xval], at: usize) -> Option<&str>
     ensures { IsFound (λ text. slice_get fields.now at ≡ Some (Text text))
         (option_map (λ t. t.now) result) }
@@ -22,7 +22,7 @@ pub(crate) fn text_at(fields: &[Xval], at: usize) -> Option<&str>
     }
 }
 
-/// The number at a place.
+/// The whole number in the field at the index `at`; None where it is none, or there is no such field.
 pub(crate) fn int_at(fields: &[Xval], at: usize) -> Option<i64>
     ensures { IsFound (λ n. slice_get fields.now at ≡ Some (Int n)) result }
 {
@@ -32,21 +32,22 @@ pub(crate) fn int_at(fields: &[Xval], at: usize) -> Option<i64>
     }
 }
 
-/// The map index that a number is.
+/// A number as a map index; None where it doesn't fit into 32 bits with a sign.
 pub(crate) fn index_in(number: i64) -> Option<i32>
     ensures { IsFound (λ index. FitsSigned w32 index × (number ≡ index)) result }
 {
     i32::try_from(number).ok()
 }
 
-/// The number of a try that a number is.
+/// A number as that of a try; None where it is negative or doesn't fit into 32 bits.
 pub(crate) fn attempt_in(number: i64) -> Option<u32>
     ensures { IsFound (λ attempt. (attempt < 2 ^ 32) × (number ≡ pos attempt)) result }
 {
     u32::try_from(number).ok()
 }
 
-/// The value of a list of one, or none of an empty list.
+/// The value in a list of one, or `Some(None)` for the empty list, which stands for nothing; None for any other
+/// value.
 pub(crate) fn optional_value_in(
     alloc: Global,
     value: &Xval,
@@ -63,7 +64,8 @@ pub(crate) fn optional_value_in(
     }
 }
 
-/// The same at a place.
+/// The value in the list at the index `at`, or `Some(None)` where that list is empty; None where no such list is
+/// there.
 pub(crate) fn optional_value_at(
     alloc: Global,
     fields: &[Xval],
@@ -77,7 +79,8 @@ pub(crate) fn optional_value_at(
     }
 }
 
-/// The values of lists of one or none.
+/// The pulled value in each of these lists of one, nothing in an empty one; None where one of `values` is no such
+/// list.
 fn pulled_values_of(alloc: Global, values: &[Xval]) -> Result<Option<Vec<Pulled>>, OutOfMemory>
     ensures { IfOk result (λ o. IsFound (λ all. values.now ≡ map optional_value_of all)
         (option_map (λ v. v.items) o)) }
@@ -92,7 +95,7 @@ fn pulled_values_of(alloc: Global, values: &[Xval]) -> Result<Option<Vec<Pulled>
     Ok(Some(all))
 }
 
-/// The values of a list of such lists.
+/// The pulled values that a list has, each in a list of its own that may be empty; None for any other value.
 fn pulled_values_in(alloc: Global, value: &Xval) -> Result<Option<Vec<Pulled>>, OutOfMemory>
     ensures { IfOk result (λ o. IsFound (λ all. value.now ≡ list_of (map optional_value_of all))
         (option_map (λ v. v.items) o)) }
@@ -103,7 +106,8 @@ fn pulled_values_in(alloc: Global, value: &Xval) -> Result<Option<Vec<Pulled>>, 
     pulled_values_of(alloc, values.as_slice())
 }
 
-/// The same at a place.
+/// The pulled values in the list at the index `at`, each in a list of its own that may be empty; None where no such
+/// list is there.
 pub(crate) fn pulled_values_at(
     alloc: Global,
     fields: &[Xval],
@@ -119,7 +123,8 @@ pub(crate) fn pulled_values_at(
     }
 }
 
-/// How a try ended that pushed this.
+/// The outcome that this word names with what the try pushed; None for any other word, and where a try pushed a value
+/// and didn't succeed.
 pub(crate) fn outcome_in(word: &str, pushed: Option<Xval>) -> Option<Outcome>
     ensures { IsFound (λ o. (word.now ≡ outcome_word o) × (pushed ≡ pushed_by o)) result }
 {

@@ -13,8 +13,8 @@ use bf_plan::Plan;
 use bf_try::Ledger;
 use std::alloc::Global;
 
-/// The tries that are kept of a journal, how many bytes at its front are whole lines, and how many stand behind them: of a line
-/// that was cut short.
+/// The tries that are kept of a journal, how many bytes at its front are whole lines, and how many stand behind them:
+/// of a line that was cut short.
 #[derive(Drop)]
 pub struct Found {
     pub tries: Ledger,
@@ -22,7 +22,8 @@ pub struct Found {
     pub torn: usize,
 }
 
-/// What is found where the bytes don't begin with the head: nothing is kept of a head that was cut short.
+/// What is found where the bytes don't begin with the head: no tries, where they are a beginning of it, cut short,
+/// and else `Mismatch`, since the journal is of another backfill.
 #[tactic(auto, using(crate::proofs::Heading::begins))]
 fn found_in_head(alloc: Global, head: &[u8], bytes: &[u8]) -> Result<Found, JournalFault>
     ensures ok { IfOk result (λ f. IsCutHead head.now bytes.now f.whole (FinMap.get f.tries)) }
@@ -40,9 +41,10 @@ fn found_in_head(alloc: Global, head: &[u8], bytes: &[u8]) -> Result<Found, Jour
     }
 }
 
-/// What is found in the bytes of a journal that begins with this head, which is that of the plan and its runs: of each name the
-/// last try whose outcome fits the plan. A journal that is no more than the beginning of its head is to be begun anew: there no
-/// byte is whole.
+/// What is found in the bytes of a journal that begins with this head, which is that of the plan and its runs: of
+/// each name the last try whose outcome fits the plan. A journal that is no more than the beginning of its head is to
+/// be begun anew: no byte of it is whole. `Mismatch` for another head, `BadRecord` for a whole line that is no
+/// record.
 pub fn read_journal(
     alloc: Global,
     plan: &Plan,

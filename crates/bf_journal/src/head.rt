@@ -18,7 +18,7 @@ const WORDS: &str = "backfill journal";
 /// The version of the form of journals.
 const VERSION: i64 = 1;
 
-/// The id of a task, which is empty where there is no such task.
+/// The id of the task of a number; empty where there is no such task.
 #[tactic(auto, unfolding(bf_plan::specs::Plans::task_of))]
 pub fn id_of(dag: &Dag, task: u32) -> &str
     ensures { result.now ≡ (task_of dag.now task).id }
@@ -29,7 +29,7 @@ pub fn id_of(dag: &Dag, task: u32) -> &str
     }
 }
 
-/// A task, and the tasks that it pulls from.
+/// A task as a list of the head: its id, and the ids of the tasks that it pulls from.
 fn value_of_task(alloc: Global, dag: &Dag, task: &Task) -> Result<Xval, OutOfMemory>
     ensures { IfOk result (λ v. v ≡ task_value dag.now task.now) }
 {
@@ -41,6 +41,7 @@ fn value_of_task(alloc: Global, dag: &Dag, task: &Task) -> Result<Xval, OutOfMem
     Ok(Xval::List(Values::new(ids)))
 }
 
+/// The tasks of a graph in file order, as a list of the head.
 fn value_of_tasks(alloc: Global, dag: &Dag) -> Result<Xval, OutOfMemory>
     ensures { IfOk result (λ v. v ≡ list_of (map (task_value dag.now) dag.now.tasks)) }
 {
@@ -51,7 +52,7 @@ fn value_of_tasks(alloc: Global, dag: &Dag) -> Result<Xval, OutOfMemory>
     Ok(Xval::List(Values::new(tasks)))
 }
 
-/// Where a data interval starts and ends.
+/// Where a data interval starts and ends, as a value of the head.
 fn value_of_interval(alloc: Global, interval: &Interval) -> Result<Xval, OutOfMemory>
     requires { IsShownInterval interval.now }
     ensures { IfOk result (λ v. v ≡ interval_value interval.now) }
@@ -61,6 +62,7 @@ fn value_of_interval(alloc: Global, interval: &Interval) -> Result<Xval, OutOfMe
     Ok(Xval::List(Values::new(vec![in alloc; start, end]?)))
 }
 
+/// The data intervals of the runs, as a list of the head.
 fn value_of_intervals(alloc: Global, runs: &Runs) -> Result<Xval, OutOfMemory>
     ensures { IfOk result (λ v. v ≡ list_of (map interval_value runs.now)) }
 {
@@ -79,6 +81,7 @@ pub struct ClearedTask {
     pub index: Option<i32>,
 }
 
+/// The fields of a cleared task: the task, its run, and its map index, left out for None.
 fn seed_fields(
     alloc: Global,
     task: Xval,
@@ -93,7 +96,8 @@ fn seed_fields(
     }
 }
 
-/// A task, the start of the run in which it is cleared, and the map index where an instance is.
+/// A cleared task as a list of the head: its id, the start of its run, and the map index where just one instance is
+/// cleared.
 fn value_of_seed(alloc: Global, seed: &ClearedTask) -> Result<Xval, OutOfMemory>
     ensures { IfOk result (λ v. v ≡ seed_value seed.now) }
 {
@@ -103,6 +107,7 @@ fn value_of_seed(alloc: Global, seed: &ClearedTask) -> Result<Xval, OutOfMemory>
     Ok(Xval::List(Values::new(words)))
 }
 
+/// What is cleared, as a list of the head.
 fn value_of_seeds(alloc: Global, seeds: &[ClearedTask]) -> Result<Xval, OutOfMemory>
     ensures { IfOk result (λ v. v ≡ list_of (map seed_value seeds.now)) }
 {
@@ -113,7 +118,7 @@ fn value_of_seeds(alloc: Global, seeds: &[ClearedTask]) -> Result<Xval, OutOfMem
     Ok(Xval::List(Values::new(words)))
 }
 
-/// The head as one value.
+/// The head of a journal as one value: a graph, its runs and, where something is, what is cleared.
 fn value_of_head(
     alloc: Global,
     dag: &Dag,
@@ -133,8 +138,8 @@ fn value_of_head(
     Ok(Xval::List(Values::new(fields)))
 }
 
-/// The line that a journal of this backfill begins with. It is never parsed: a journal is of another backfill where it
-/// doesn't begin with this. `seeds` is what is cleared; a backfill that clears nothing has none.
+/// The line, its line feed included, that a journal of this backfill begins with. It is never parsed: a journal that
+/// doesn't begin with it is of another backfill. `seeds` is what is cleared; a backfill that clears nothing has none.
 #[tactic(auto, unfolding(crate::specs::Heads::head_text))]
 pub fn head_of(
     alloc: Global,

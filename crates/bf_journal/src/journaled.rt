@@ -1,8 +1,8 @@
 //! What a journal is of.
 use std::marker::Brand;
 
-/// Which bytes a journal goes on behind, and which records may be written there: a call that makes a recorder picks them, so
-/// that they are known behind its lock.
+/// Which bytes a journal goes on behind, and which records may be written there: a call that makes a recorder picks
+/// them, so that they are known behind its lock.
 pub trait Journaled {
     ghost use Rattle.std.specs.Prelude.{ℕ, List, Option};
 

@@ -19,13 +19,13 @@ ghost use Rattle.bf_journal.specs.Cuts.{AreAllTold, IsCutJournal, KeepsGraded, R
 
 use bf_try::TaskRunner;
 
-/// Of the records of a journal that was cut short anywhere, just those are read that stand there whole.
+/// A law: of a journal that was cut short at any byte just the records are read whose whole line is left.
 pub fn whole_records_are_read()
     ensures { (records : List Xval) → All IsTellable records → (n : ℕ)
         → ReadsWholeOnes records n }
 {}
 
-/// The whole lines of a journal tell one list of tries alone.
+/// A law: the whole lines of a journal tell only one list of tries.
 pub fn journals_tell_one_list()
     ensures { (dag : Dag) (intervals : List Interval) → IsNamed dag → AreOfRuns intervals
         → (values : List (Option Xval)) (tries others : List (JobName × Entry))
@@ -33,9 +33,9 @@ pub fn journals_tell_one_list()
         ≡ others }
 {}
 
-/// However often a journal was cut short, at whatever byte, and gone on with by backfills over such a runner: its lines are
-/// read, and each kept try has the grade of an answer that may be given to it. That is a premise of `resume`, so what is printed
-/// after any number of crashes is what a backfill from nothing may print.
+/// A law: however often a journal was cut short, at whatever byte, and gone on with by backfills over this runner,
+/// its lines are read, and each kept try has the grade of an answer that the runner may give it. That is a premise of
+/// `resume`, so what is printed after any number of crashes is what a backfill from nothing may print.
 pub fn cut_journals_keep_graded_tries<R: TaskRunner>(runner: &R)
     ensures told { (dag : Dag) (intervals : List Interval) (bytes : List ℕ)
         → IsCutJournal (R.may_answer runner.now) dag intervals bytes
@@ -46,8 +46,8 @@ pub fn cut_journals_keep_graded_tries<R: TaskRunner>(runner: &R)
         → KeepsGraded (R.may_answer runner.now) dag intervals bytes }
 {}
 
-/// Nothing is such a journal; what is left of one that is cut short again is; and so is what stands there once a backfill has gone
-/// on behind its whole lines.
+/// A law: an empty journal is one that was cut short and gone on with; so is what is left of such a journal when it
+/// is cut again, at any byte; and so is what it holds once a backfill has gone on after its whole lines.
 pub fn journals_are_cut_and_gone_on_with<R: TaskRunner>(runner: &R)
     ensures begun { (dag : Dag) (intervals : List Interval)
         → IsCutJournal (R.may_answer runner.now) dag intervals [] }
@@ -63,7 +63,8 @@ pub fn journals_are_cut_and_gone_on_with<R: TaskRunner>(runner: &R)
         → IsCutJournal (R.may_answer runner.now) dag intervals written }
 {}
 
-/// What is kept without failed tries is a part of what was kept, so it fits where that did.
+/// A law: kept tries without the failed ones (`without_failed`) are a part of the kept ones, and fit the plan where
+/// those do.
 pub fn what_is_left_is_kept()
     ensures part { (dag : Dag) (kept : Ledger) (n : JobName) (e : Entry)
         → without_failed dag kept n ≡ Some e → kept n ≡ Some e }
@@ -71,7 +72,7 @@ pub fn what_is_left_is_kept()
         → AreFit dag (without_failed dag kept) }
 {}
 
-/// No byte is what crashes leave of a journal, and so is each beginning of what they leave.
+/// A law: an empty journal is one that crashes may leave, and so is each beginning of a journal that they leave.
 pub fn what_crashes_leave_may_be_cut<R: TaskRunner>(runner: &R)
     ensures nothing { (dag : Dag) (intervals : List Interval) (head : List ℕ)
         → IsLeftByCrashes (R.may_answer runner.now) dag intervals head [] }

@@ -18,7 +18,7 @@ use std::alloc::Global;
 /// How deep the lists of a record may nest: as deep as JSON is read.
 pub(crate) const DEEPEST_RECORD: usize = 127;
 
-/// A list of the value, or of none.
+/// A value that may be missing, as a record has it: a list of the value, or the empty list for None.
 fn optional_value(alloc: Global, value: Option<&Xval>) -> Result<Xval, OutOfMemory>
     ensures { IfOk result (λ v. v ≡ optional_value_of (option_copied value.entry)) }
 {
@@ -32,6 +32,7 @@ fn optional_value(alloc: Global, value: Option<&Xval>) -> Result<Xval, OutOfMemo
     }
 }
 
+/// Pulled values as a record has them: each as a list of the value, or as the empty list.
 fn optional_values(alloc: Global, values: &[Pulled]) -> Result<Vec<Xval>, OutOfMemory>
     ensures { IfOk result (λ all. all.items ≡ map optional_value_of values.now) }
 {
@@ -42,7 +43,7 @@ fn optional_values(alloc: Global, values: &[Pulled]) -> Result<Vec<Xval>, OutOfM
     Ok(all)
 }
 
-/// How a try ended.
+/// The word of a record for how a try ended.
 fn word_of(outcome: &Outcome) -> &'static str
     ensures { result.now ≡ outcome_word outcome.now }
 {
@@ -53,8 +54,8 @@ fn word_of(outcome: &Outcome) -> &'static str
     }
 }
 
-/// The status that a shell shows of what ended so: 128 and the number of a signal, where that is known, and -1 where nothing was
-/// started.
+/// The exit status that a shell shows: the exit code, 128 and the number of a signal, 128 where that isn't known, and
+/// -1 where nothing was started.
 fn code_of(exit: Exit, signal: Option<i32>) -> i64
     ensures { result ≡ exit_code exit signal }
 {
@@ -66,7 +67,7 @@ fn code_of(exit: Exit, signal: Option<i32>) -> i64
     }
 }
 
-/// When a try started, when it ended, and by which code.
+/// The stamp of a record: when a try started and ended, in milliseconds since 1970, and the code that it ended by.
 fn stamp_of(alloc: Global, stamp: Stamp, exit: Exit) -> Result<Xval, OutOfMemory>
     ensures { IfOk result (λ v. v ≡ stamp_value stamp exit) }
 {
@@ -77,7 +78,7 @@ fn stamp_of(alloc: Global, stamp: Stamp, exit: Exit) -> Result<Xval, OutOfMemory
     Ok(Xval::List(Values::new(numbers)))
 }
 
-/// The record of an answered try that ended so, in a run of this data interval.
+/// The record, as a value, of the answered try `done` with this outcome; `run` is the data interval of its run.
 fn value_of_record(
     alloc: Global,
     plan: &Plan,
@@ -107,7 +108,7 @@ fn value_of_record(
     Ok(Xval::List(Values::new(fields)))
 }
 
-/// A value as a line; none, where its lists nest too deep to be read back.
+/// A value as a line of a journal, with its line feed; None where its lists nest deeper than can be read back.
 fn line_of(alloc: Global, value: &Xval) -> Result<Option<String>, OutOfMemory>
     ensures some { IfOk result (λ o. IfSome o (λ line. IsLineOf value.now (string_bytes line))) }
     ensures none { IfOk result (λ o. IfNone o (¬ (plain_depth (plain_of value.now) ≤ 127))) }
@@ -121,7 +122,8 @@ fn line_of(alloc: Global, value: &Xval) -> Result<Option<String>, OutOfMemory>
     Ok(Some(line))
 }
 
-/// The line of the record of an answered try that ended so, in a run of this data interval.
+/// The line of the record of the answered try `done` with this outcome; `run` is the data interval of its run. None
+/// where its lists nest deeper than can be read back.
 fn record_line_of(
     alloc: Global,
     plan: &Plan,
@@ -142,8 +144,9 @@ fn record_line_of(
     line_of(alloc, &value)
 }
 
-/// The line of the record of an answered try that ended so. None, where there is no such task or run, and where lists nest
-/// too deep to be read back, which those that programs push never do.
+/// The line of the record, its line feed included, of the answered try `done` that ended with this outcome. None
+/// where there is no such task or run, and where lists nest too deep to be read back, which those that programs push
+/// never do.
 pub fn record_of(
     alloc: Global,
     plan: &Plan,

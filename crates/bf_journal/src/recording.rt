@@ -18,8 +18,9 @@ use std::marker::Model;
 use std::sync::{Mutex, Wait};
 use std::time::{Clock, Duration};
 
-/// Hands each try on to a runner, and records how it ended. Every further try is given up, and not handed on, where a record
-/// can't be written, where memory is wanting for one, and where enough tries have failed; those that run are recorded.
+/// Hands each try on to a runner, and records how it ended. Every further try is given up, and not handed on, where a
+/// record can't be written, where memory is wanting for one, and where enough tries have failed; those that run are
+/// recorded.
 #[derive(Drop)]
 pub struct Recording<'a, K: Journaled, RT, R: DetailedRunner, D: Durable + Drop> {
     rt: &'a RT,
@@ -65,7 +66,7 @@ where
     R: DetailedRunner,
     D: Durable + Drop,
 {
-    /// A runner round a runner, for the runs of a plan.
+    /// A runner that makes each try by `runner`, and records how it ended by `recorder`.
     pub fn new(
         rt: &'a RT,
         alloc: Global,
@@ -92,12 +93,14 @@ where
         }
     }
 
-    /// The present moment of the monotonic clock.
+    /// The present moment of the monotonic clock, by which the recorder times its syncs; zero where the clock doesn't
+    /// answer. No clause says so.
     fn now(&self) -> Duration {
         self.rt.monotonic().unwrap_or(Duration::ZERO)
     }
 
-    /// What is to be recorded of a try.
+    /// What is to be recorded of an answered try: its line, None where it can have none, and whether it failed.
+    /// Contracts say only that the line may be recorded.
     fn graded_record_of(&self, done: &Done, stamp: Stamp) -> Result<GradedRecord, OutOfMemory>
         requires may { R.may_answer self.now.runner done.now.name done.now.given done.now.raw }
         requires task { done.now.name.task < length self.now.dag.tasks }
@@ -109,7 +112,8 @@ where
         Ok(GradedRecord { has_failed, line })
     }
 
-    /// Records a try. One of a task that isn't there has no record.
+    /// Writes the record of an answered try and counts it where it failed; does nothing for a task that isn't there.
+    /// Contracts say nothing of what is written, since the recorder is behind a lock.
     fn record(&self, done: &Done, stamp: Stamp) -> Result<(), OutOfMemory>
         requires { R.may_answer self.now.runner done.now.name done.now.given done.now.raw }
     {
@@ -128,19 +132,20 @@ where
         Ok(())
     }
 
-    /// Notes that memory was wanting for a record.
+    /// Notes in the recorder that memory was wanting for a record. No clause says so: the recorder is behind a lock.
     fn note_memory_failure(&self) {
         let mut recorder = self.recorder.lock(self.rt);
         recorder.note_memory_failure();
     }
 
-    /// Why no further try is begun, if none is.
+    /// Why no further try is begun; None while tries may begin. No clause says so: the recorder is behind a lock.
     pub fn stop_reason(&self) -> Option<Stop> {
         let recorder = self.recorder.lock(self.rt);
         recorder.stop_reason()
     }
 
-    /// Syncs, and gives the device back, with why no further try was begun.
+    /// Syncs the device, and gives it back with the reason why no further try was begun; None where tries might have
+    /// begun.
     pub fn close(self) -> (D, Option<Stop>)
         ensures { IsWritten K.may_record K.base (D.written result.0) (is_write_failed result.1) }
     {
@@ -156,7 +161,8 @@ where
     }
 }
 
-/// The number of the signal that ended a program, where that is known.
+/// The number of the signal that ended a program, by the detail of its try; None where that tells none. No clause
+/// says so.
 fn signal_in(detail: &Option<Detail>) -> Option<i32> {
     match detail {
         Some(Detail::Signal(number)) => Some(*number),
@@ -175,6 +181,8 @@ where
 
     ghost may_give_up = { λ s n g. Unit {0} };
 
+    /// Makes a try by the inner runner and records how it ended. `GaveUp`, and the try isn't made, where no further
+    /// one is to begin.
     fn run(&self, ticket: Ticket) -> Result<Done, (Ticket, RunnerFault)> {
         if self.stop_reason().is_some() {
             return Err((ticket, RunnerFault::GaveUp));

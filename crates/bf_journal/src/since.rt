@@ -11,7 +11,8 @@ use bf_value::{JobName, OutOfMemory};
 use bf_xcom::Given;
 use std::alloc::Global;
 
-/// The tries of a journal, all or those that aren't to be made again, and of every other name the try that was kept before.
+/// The tries of a journal, all or those that aren't to be made again, and of every other name the try that was kept
+/// before.
 #[derive(Drop)]
 pub struct Since<'a, K> {
     pub plan: &'a Plan,
@@ -21,7 +22,7 @@ pub struct Since<'a, K> {
 }
 
 impl<K> Since<'_, K> {
-    /// What is kept of the journal's try of a name.
+    /// What is kept of the journal's try of a name; None where it has none, or a failed one that is made again.
     fn entry(&self, name: JobName) -> Option<&Entry>
         ensures { option_copied result
             ≡ left_of self.now.retry_failed self.now.plan.now.dag (FinMap.get self.now.tries.now)
@@ -45,6 +46,8 @@ impl<K: KeptTries> KeptTries for Since<'_, K> {
     ghost kept = { λ s. since (left_of s.retry_failed s.plan.now.dag (FinMap.get s.tries.now))
         (K.kept s.before.now) };
 
+    /// The journal's answer to the try of a name, else the one that was kept before; None where the try is to be
+    /// made.
     fn answer(
         &self,
         alloc: Global,

@@ -19,8 +19,8 @@ pub(crate) struct Told {
     pub torn: usize,
 }
 
-/// The tries that the lines behind a head tell, or the number of the first line that tells of none. What stands behind the last
-/// line feed is no line.
+/// The tries that the lines after a head tell, in order, or `BadRecord` for the first line that tells of none. What
+/// follows the last line feed is no line.
 #[tactic(auto, using(crate::proofs::Passing::nothing_read, crate::proofs::Passing::more_read, crate::proofs::Passing::all_read))]
 pub(crate) fn tries_told_in(
     alloc: Global,

@@ -20,7 +20,7 @@ use std::alloc::Global;
 /// How many members a record has. What stands in the last is passed over.
 const MEMBERS: usize = 9;
 
-/// The name of a try, in the first fields of its record.
+/// The name of a try by the fields of its record; None where the first four name no run, task, map index and attempt.
 fn name_in(plan: &Plan, runs: &Runs, fields: &[Xval]) -> Option<JobName>
     ensures { IsFound (TellsName plan.now.dag runs.now fields.now) result }
 {
@@ -36,7 +36,7 @@ fn name_in(plan: &Plan, runs: &Runs, fields: &[Xval]) -> Option<JobName>
     })
 }
 
-/// How a try ended, in the next fields.
+/// How a try ended, by all fields of its record; None where they tell no outcome.
 fn outcome_of(alloc: Global, fields: &[Xval]) -> Result<Option<Outcome>, OutOfMemory>
     ensures { IfOk result (IsFound (TellsOutcome fields.now)) }
 {
@@ -49,7 +49,7 @@ fn outcome_of(alloc: Global, fields: &[Xval]) -> Result<Option<Outcome>, OutOfMe
     }
 }
 
-/// How a try ended and what it was given, in these and the next fields.
+/// How a try ended and what it was given, by all fields of its record; None where they don't tell it.
 fn entry_in(alloc: Global, fields: &[Xval]) -> Result<Option<Entry>, OutOfMemory>
     ensures { IfOk result (IsFound (TellsEntry fields.now)) }
 {
@@ -67,7 +67,8 @@ fn entry_in(alloc: Global, fields: &[Xval]) -> Result<Option<Entry>, OutOfMemory
     Ok(Some(Entry { given, outcome }))
 }
 
-/// The try of which these are the fields of the record.
+/// The try that the fields of a record tell of; None where they aren't nine, or tell of no try of this plan and its
+/// runs.
 fn told_try_of(
     alloc: Global,
     plan: &Plan,
@@ -90,7 +91,7 @@ fn told_try_of(
     }
 }
 
-/// The try that a text tells of.
+/// The try that the text of a record, JSON, tells of; None where it tells of no try of this plan and its runs.
 fn told_try_in_text(
     alloc: Global,
     plan: &Plan,
@@ -105,7 +106,8 @@ fn told_try_in_text(
     }
 }
 
-/// The try that a line tells of.
+/// The try that a line of a journal, without its line feed, tells of; None where it tells of no try of this plan and
+/// its runs.
 pub(crate) fn told_try_in(
     alloc: Global,
     plan: &Plan,

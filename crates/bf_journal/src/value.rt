@@ -1,6 +1,6 @@
 //! Texts and moments as values.
 ghost use Rattle.std.specs.Prelude.{◌≡◌, IfOk};
-ghost use Rattle.bf_value.specs.declared.xval.Xval.TheVariants.{Text};
+ghost use Rattle.bf_value.specs.declared.xval.Xval.TheVariants.{Text as TextValue};
 ghost use Rattle.bf_moment.specs.Moment.{IsShown, moment_text};
 
 use bf_moment::Moment;
@@ -10,15 +10,15 @@ use std::alloc::Global;
 
 /// A text as a value.
 pub(crate) fn text_value(alloc: Global, text: &str) -> Result<Xval, OutOfMemory>
-    ensures { IfOk result (λ v. v ≡ Text text.now) }
+    ensures { IfOk result (λ v. v ≡ TextValue text.now) }
 {
     Ok(Xval::Text(Text::copy_of(alloc, text)?))
 }
 
-/// The text of a moment as a value.
+/// The text of a moment, as `2024-01-31T06:05:09Z`, as a value.
 pub(crate) fn moment_value(alloc: Global, at: Timestamp) -> Result<Xval, OutOfMemory>
     requires { IsShown at.nanosecond }
-    ensures { IfOk result (λ v. v ≡ Text (moment_text at.nanosecond)) }
+    ensures { IfOk result (λ v. v ≡ TextValue (moment_text at.nanosecond)) }
 {
     Ok(Xval::Text(Text::new(Moment::new(at).to_string(alloc)?)))
 }

@@ -4,7 +4,8 @@ use bf_try::{Done, RunnerFault, TaskRunner, Ticket};
 use bf_value::OutOfMemory;
 use std::alloc::Global;
 
-/// Answers the tries that are kept, so that they end as they did, and hands every other on to a runner.
+/// Answers a try of which one of its name, given the same, is kept, so that it ends as that did, and hands every
+/// other on to a runner. Where memory is wanting for a kept answer, the ticket comes back.
 #[derive(Drop)]
 pub struct Keeping<'a, K, R> {
     pub alloc: Global,
@@ -21,6 +22,8 @@ impl<'a, K: KeptTries, R: TaskRunner> TaskRunner for Keeping<'a, K, R> {
     ghost may_give_up = { λ s n g. MayGiveUpAnew (K.kept s.kept.now)
         (R.may_give_up s.runner.now) n g };
 
+    /// Answers the try from `kept` where it is kept there and was given the same, and else has the runner make it.
+    /// Where there is no answer the ticket comes back.
     fn run(&self, ticket: Ticket) -> Result<Done, (Ticket, RunnerFault)> {
         match self.kept.answer(self.alloc, ticket.name(), ticket.given()) {
             Ok(Some(raw)) => Ok(ticket.answer(raw)),

@@ -14,7 +14,8 @@ pub trait KeptTries {
     /// What is kept of the try of a name.
     ghost kept: { Self → JobName → Option Entry };
 
-    /// An answer by which a try that was given this ends as is kept of it; none, where no such try is kept.
+    /// An answer by which the try `name`, given this, ends as is kept of it; None where no try of the name is kept
+    /// that was given the same.
     fn answer(
         &self,
         alloc: Global,
@@ -33,6 +34,7 @@ impl KeptTries for NothingKept {
 
     ghost kept = { λ _. nothing };
 
+    /// None, for each try.
     fn answer(
         &self,
         _alloc: Global,
@@ -49,6 +51,8 @@ impl KeptTries for Ledger {
 
     ghost kept = { λ s. FinMap.get s };
 
+    /// An answer by which the try ends as the ledger has it; None where the ledger has no try of the name that was
+    /// given the same.
     fn answer(
         &self,
         alloc: Global,

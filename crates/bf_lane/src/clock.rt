@@ -13,11 +13,11 @@ pub trait TimeSource {
     /// What `now` answered last.
     ghost last: { Self → ℤ };
 
-    /// The time.
+    /// The present moment, in whole seconds since 1970. Contracts see the last answer that was given.
     fn now(&mut self) -> i64
         ensures { last self.new ≡ result };
 
-    /// Sleeps until `sleep` is woken, or until the moment. It may wake sooner.
+    /// Sleeps until `sleep` is woken, or until the moment `until`, in seconds since 1970. It may wake sooner.
     fn pause<W: Wait>(&mut self, rt: &W, sleep: &Parker, until: i64);
 }
 
@@ -29,7 +29,7 @@ pub struct MachineClock<'c, C> {
 }
 
 impl<'c, C> MachineClock<'c, C> {
-    /// The clock of the machine, as it is lent.
+    /// The machine's clock, which is borrowed. No clause says what its last answer is before the first.
     pub fn new(clock: &'c C) -> MachineClock<'c, C> {
         MachineClock { clock, told: 0 }
     }
@@ -38,6 +38,7 @@ impl<'c, C> MachineClock<'c, C> {
 impl<'c, C: std::time::Clock> TimeSource for MachineClock<'c, C> {
     ghost last = { λ clock. clock.told };
 
+    /// The machine's time, in whole seconds since 1970; where it can't be read what was told before, at first 0.
     fn now(&mut self) -> i64 {
         if let Ok(passed) = self.clock.since_1970() {
             self.told = i64::try_from(passed.as_secs()).unwrap_or(i64::MAX);
@@ -45,6 +46,7 @@ impl<'c, C: std::time::Clock> TimeSource for MachineClock<'c, C> {
         self.told
     }
 
+    /// Sleeps by the machine's clock, or where that can't be read as if it were the moment that was told last.
     fn pause<W: Wait>(&mut self, rt: &W, sleep: &Parker, until: i64) {
         let until = Duration::from_secs(u64::try_from(until).unwrap_or(0));
         let told = Duration::from_secs(u64::try_from(self.told).unwrap_or(0));
@@ -70,7 +72,7 @@ impl Model for Jump {
 }
 
 impl Jump {
-    /// A clock at the beginning of 1970.
+    /// A clock that shows the beginning of 1970.
     pub fn new() -> Jump
         ensures { result ≡ pos 0 }
     {
@@ -81,6 +83,7 @@ impl Jump {
 impl TimeSource for Jump {
     ghost last = { λ clock. clock };
 
+    /// The moment that the clock shows, in seconds since 1970.
     fn now(&mut self) -> i64
         ensures told { result ≡ self.old }
         ensures same { self.new ≡ self.old }
@@ -88,6 +91,7 @@ impl TimeSource for Jump {
         self.at
     }
 
+    /// Sleeps for no time: the clock shows `until` from now on.
     fn pause<W: Wait>(&mut self, _rt: &W, _sleep: &Parker, until: i64)
         ensures { self.new ≡ until }
     {

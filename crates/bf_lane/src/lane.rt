@@ -76,7 +76,7 @@ pub fn new_queues_and_seats<K: Service>(alloc: Global) -> Result<(Queues<K>, Sea
     ))
 }
 
-/// Takes out all that a queue holds.
+/// Takes out and drops all that the queue `line` holds. `seat` is the pass to the queue, and notes what was taken.
 fn drain<W: Wait, T: Drop>(rt: &W, line: &RuledQueue<T>, seat: &mut QueuePass<T>)
     requires seat { IsPassOf line.now seat.old }
     requires whole { ((view seat.old).puts ≡ true) × ((view seat.old).takes ≡ true) }
@@ -91,7 +91,8 @@ fn drain<W: Wait, T: Drop>(rt: &W, line: &RuledQueue<T>, seat: &mut QueuePass<T>
 }
 
 impl<'s, K: Service + Send + Sync + 's> Lane<'s, K> {
-    /// Starts the worker of a lane, who answers by the runner.
+    /// Starts a thread, the worker of a lane, which answers each try by the runner and wakes `answered` behind each
+    /// answer. `NotStarted` where the thread can't be started.
     pub fn start<E, W: Threads + Wait + Sync, R: TaskRunner + Sync>(
         scope: &Scope<'s, E>,
         rt: &'s W,
@@ -169,7 +170,7 @@ impl<'s, K: Service + Send + Sync + 's> Lane<'s, K> {
         self.is_busy = true;
     }
 
-    /// The answer of the worker, if one is awaited and there.
+    /// The answer of the worker; None where none is awaited, or it isn't there yet. Never waits.
     pub fn try_gather(&mut self) -> Option<Answer>
         ensures some { IfSome result (λ a. self.new
             ≡ scheduled self.old.submitted (self.old.gathered ++ a ∷ [])) }
@@ -184,7 +185,7 @@ impl<'s, K: Service + Send + Sync + 's> Lane<'s, K> {
         Some(reply.into_answer())
     }
 
-    /// Stops the worker, waits until it has ended, and takes what it left in its queues.
+    /// Stops the worker, waits until its thread has ended, and takes what it left in its queues.
     pub fn close<W: Threads + Wait>(self, rt: &W) -> Closed<K>
         ensures submitted { result.submitted ≡ self.entry.submitted ++ TheVariants.Stop ∷ [] }
         ensures gathered { StartsWith result.gathered self.entry.gathered }

@@ -67,21 +67,21 @@ impl<'s, K: Service + Send + Sync + 's> Lanes<'s, K> {
         Ok(())
     }
 
-    /// The first lane that awaits no answer.
+    /// The place, from 0, of the first lane that awaits no answer; None where each awaits one.
     pub fn first_idle(&self) -> Option<usize>
         ensures { result ≡ position (λ lane. not (awaits lane)) self.now }
     {
         self.lanes.iter().position(|lane| !lane.is_busy())
     }
 
-    /// How many there are.
+    /// How many lanes there are.
     pub fn len(&self) -> usize
         ensures { result ≡ length self.now }
     {
         self.lanes.len()
     }
 
-    /// Submits a try over a lane that awaits no answer.
+    /// Submits a try to the worker of the lane at the place `at`, from 0, which awaits no answer.
     pub fn submit<W: Wait>(&mut self, rt: &W, at: usize, ticket: Ticket)
         requires { IsIdleAt self.old at }
         ensures { IsSubmitted self.old self.new at ticket }
@@ -90,7 +90,7 @@ impl<'s, K: Service + Send + Sync + 's> Lanes<'s, K> {
         lane.submit(rt, ticket);
     }
 
-    /// The answer of one lane, if one is there.
+    /// The answer that is in the lane at the place `at`, from 0; None where none is. Never waits.
     fn try_gather_from(&mut self, at: usize) -> Option<Answer>
         requires { at < length self.old }
         ensures some { IfSome result (λ a. IsGathered self.old self.new at a) }
@@ -101,7 +101,8 @@ impl<'s, K: Service + Send + Sync + 's> Lanes<'s, K> {
         lane.try_gather()
     }
 
-    /// The first answer that is there, once round the lanes.
+    /// The answer that is in the first lane that has one, and the place of that lane, from 0; None where no lane has
+    /// one. Never waits.
     fn try_gather_any(&mut self) -> Option<(usize, Answer)>
         ensures some { IfSome result (λ r. IsGathered self.old self.new r.0 r.1) }
         ensures allowed { IfSome result (λ r. IsAllowedBy K.answers K.gives_up r.1) }
@@ -115,7 +116,7 @@ impl<'s, K: Service + Send + Sync + 's> Lanes<'s, K> {
         None
     }
 
-    /// Waits for an answer: of which lane it is, and what it is.
+    /// Waits for an answer, and gives the place of its lane, from 0, and the answer.
     pub fn gather<W: Wait>(&mut self, rt: &W) -> (usize, Answer)
         ensures gathered { IsGathered self.old self.new result.0 result.1 }
         ensures allowed { IsAllowedBy K.answers K.gives_up result.1 }
@@ -129,7 +130,8 @@ impl<'s, K: Service + Send + Sync + 's> Lanes<'s, K> {
         unreachable!()
     }
 
-    /// Waits for an answer until a moment. None comes only where the clock's last answer isn't before that.
+    /// Waits for an answer until a moment, in seconds since 1970, and gives the place of its lane, from 0, and the
+    /// answer. None only where the clock's last answer isn't before that moment.
     pub fn gather_until<W: Wait, C: TimeSource>(
         &mut self,
         rt: &W,

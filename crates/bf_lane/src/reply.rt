@@ -29,7 +29,7 @@ impl<K: Service> Model for Reply<K> {
 }
 
 impl<K: Service> Reply<K> {
-    /// The answer, which has to be allowed.
+    /// A reply with this answer, which has to be allowed.
     pub fn new(answer: Answer) -> Reply<K>
         requires { IsAllowedBy K.answers K.gives_up answer }
         ensures { result ≡ answer }
@@ -40,7 +40,7 @@ impl<K: Service> Reply<K> {
         }
     }
 
-    /// The answer itself.
+    /// The answer in the reply.
     pub fn into_answer(self) -> Answer
         ensures same { result ≡ self }
         ensures allowed { IsAllowedBy K.answers K.gives_up result }

@@ -7,7 +7,7 @@ use crate::source::{Items, SourceValues};
 use bf_value::{OutOfMemory, Sequence, Xval};
 use std::alloc::Global;
 
-/// Leaves out those that pushed nothing.
+/// The values that instances pushed, in order; one that pushed nothing is left out.
 fn pushed_items(alloc: Global, pushed: Sequence<Option<Xval>>) -> Result<Vec<Xval>, OutOfMemory>
     ensures { IfOk result (λ items. items.items ≡ filter_map (λ v. v) pushed) }
 {
@@ -21,8 +21,8 @@ fn pushed_items(alloc: Global, pushed: Sequence<Option<Xval>>) -> Result<Vec<Xva
 }
 
 /// The items that a source gives: of an unmapped one those of the list that it pushed, of an expanded one what its
-/// instances pushed, in index order, where those that pushed nothing are left out. A source that has nothing, or that
-/// pushed no list, gives none, not even an empty list.
+/// instances pushed, in index order, where those that pushed nothing are left out. `Missing` where the source has
+/// nothing, or is unmapped and pushed no list.
 pub fn items(alloc: Global, source: SourceValues) -> Result<Items, OutOfMemory>
     ensures { IfOk result (λ items. items ≡ items_of source) }
 {

@@ -8,8 +8,8 @@ use bf_moment::{Moment, moment_bytes};
 use bf_value::OutOfMemory;
 use std::alloc::Global;
 
-/// What stands in two digits above a column, in a group that stands above that: a year in its decade, a month in its year,
-/// and so on.
+/// What stands in two digits above a column, in a group that stands above that: a year in its decade, a month in its
+/// year, and so on.
 #[derive(Clone, Copy, Debug, PartialEq, Eq)]
 pub enum Scale {
     Years,
@@ -19,6 +19,7 @@ pub enum Scale {
     Minutes,
 }
 
+/// Whether `second` is at least `seconds` after `first`.
 fn are_two_apart(first: Moment, second: Moment, seconds: u32) -> bool
     ensures { result ≡ is_behind (seconds_of seconds) first.at.nanosecond second.at.nanosecond }
 {
@@ -26,7 +27,7 @@ fn are_two_apart(first: Moment, second: Moment, seconds: u32) -> bool
     second.at.as_nanosecond() >= first.at.as_nanosecond() + least
 }
 
-/// Whether each moment is at least so many seconds behind the one before.
+/// Whether each of these moments is at least `seconds` after the one before it.
 fn are_apart(starts: &[Moment], seconds: u32) -> bool
     ensures { result ≡ are_apart_in (seconds_of seconds)
         (map (λ start. start.at.nanosecond) starts.now) }
@@ -45,7 +46,7 @@ fn are_apart(starts: &[Moment], seconds: u32) -> bool
 }
 
 impl Scale {
-    /// By the least time between two columns.
+    /// The scale for columns that start at these moments, by the least time between two; days for fewer than two.
     pub fn of(starts: &[Moment]) -> Scale
         ensures { result ≡ scale_of (map (λ start. start.at.nanosecond) starts.now) }
     {
@@ -68,7 +69,8 @@ impl Scale {
         }
     }
 
-    /// How many bytes of a moment's text say its group.
+    /// How many bytes at the front of a moment's text (`2024-01-31T..`) tell the group of a column, as 7 for its
+    /// month.
     pub fn group_size(self) -> usize
         ensures { result ≡ group_size_of self }
     {
@@ -81,7 +83,7 @@ impl Scale {
         }
     }
 
-    /// Where the two digits stand in the text of a moment.
+    /// Where in a moment's text (`2024-01-31T..`) the two digits of a column begin, from 0, as 8 for the day.
     pub fn unit_place(self) -> usize
         ensures { result ≡ unit_place_of self }
     {
@@ -94,7 +96,8 @@ impl Scale {
         }
     }
 
-    /// Adds the label of a group.
+    /// Adds the label of a group, whose bytes in a moment's text are `group`: these, and `0s` behind them for a
+    /// decade.
     pub fn push_label(self, label: &mut Vec<u8>, group: &[u8]) -> Result<(), OutOfMemory>
         ensures { OnOk result (label.new.items ≡ label.old.items ++ group_label self group.now) }
     {
@@ -106,7 +109,7 @@ impl Scale {
     }
 }
 
-/// A label, or its last three bytes, or nothing, as there is room before the next one.
+/// A label, or its last three bytes, or nothing, so that at least one of `room` columns stays free behind it.
 pub fn fitted(label: &[u8], room: usize) -> &[u8]
     ensures { result.now ≡ fitted_of room label.now }
 {
@@ -119,7 +122,7 @@ pub fn fitted(label: &[u8], room: usize) -> &[u8]
     &[]
 }
 
-/// How many groups at the front are this one.
+/// How many of the first moments in `starts` are of this group, up to the first that isn't.
 fn count_same_at_front(scale: Scale, group: &[u8], starts: &[Moment]) -> usize
     ensures count { result ≡ same_first group.now
         (groups_of scale (map (λ start. start.at.nanosecond) starts.now)) }
@@ -133,7 +136,7 @@ fn count_same_at_front(scale: Scale, group: &[u8], starts: &[Moment]) -> usize
     starts.len()
 }
 
-/// Adds the label of a group of so many columns.
+/// Adds the label of a group, cut to `room` columns, and spaces behind it up to `count` columns.
 fn push_group(
     alloc: Global,
     text: &mut Vec<u8>,
@@ -150,7 +153,7 @@ fn push_group(
     push_left_aligned(text, count, fitted(label.as_slice(), room))
 }
 
-/// Adds spaces.
+/// Adds `count` spaces.
 pub fn push_spaces(text: &mut Vec<u8>, count: usize) -> Result<(), OutOfMemory>
     ensures { OnOk result (text.new.items ≡ text.old.items ++ replicate count 32) }
 {
@@ -160,7 +163,7 @@ pub fn push_spaces(text: &mut Vec<u8>, count: usize) -> Result<(), OutOfMemory>
     Ok(())
 }
 
-/// Adds a text and spaces behind it, up to a width.
+/// Adds a text and spaces behind it, up to `width` bytes; a longer text isn't cut.
 pub fn push_left_aligned(text: &mut Vec<u8>, width: usize, shown: &[u8]) -> Result<(), OutOfMemory>
     ensures { OnOk result (text.new.items ≡ text.old.items ++ left width shown.now) }
 {
@@ -168,7 +171,7 @@ pub fn push_left_aligned(text: &mut Vec<u8>, width: usize, shown: &[u8]) -> Resu
     push_spaces(text, width.saturating_sub(shown.len()))
 }
 
-/// Adds a text and spaces before it, up to a width.
+/// Adds spaces and a text behind them, `width` bytes in all; a longer text isn't cut.
 pub fn push_right_aligned(text: &mut Vec<u8>, width: usize, shown: &[u8]) -> Result<(), OutOfMemory>
     ensures { OnOk result (text.new.items ≡ text.old.items ++ right width shown.now) }
 {
@@ -176,7 +179,7 @@ pub fn push_right_aligned(text: &mut Vec<u8>, width: usize, shown: &[u8]) -> Res
     push(text, shown)
 }
 
-/// How much room the label of so many columns has, the last one as much as it needs.
+/// How many columns the label of a group of `count` may take; at least 99 for the last, where `further` is empty.
 fn label_room(count: usize, further: &[Moment]) -> usize
     ensures { result ≡ (if length further.now == 0 then max count 99 else count) }
 {
@@ -187,7 +190,7 @@ fn label_room(count: usize, further: &[Moment]) -> usize
     }
 }
 
-/// Adds the labels of groups, each at its first column.
+/// Adds the labels of the groups above the columns that start at these moments, each at its group's first column.
 pub fn push_groups(
     alloc: Global,
     text: &mut Vec<u8>,
@@ -215,7 +218,7 @@ pub fn push_groups(
     Ok(())
 }
 
-/// Adds a digit of each column.
+/// Adds for each column one digit of its moment's text, the byte at `place`, from 0.
 pub fn push_digits(text: &mut Vec<u8>, place: usize, starts: &[Moment]) -> Result<(), OutOfMemory>
     requires { place < 20 }
     ensures { OnOk result (text.new.items ≡ text.old.items

@@ -21,6 +21,7 @@ pub enum Mark {
 }
 
 impl Mark {
+    /// The mark of a tally: the worst state that is in it; skipped for one of nothing.
     pub fn of(tally: Tally) -> Mark
         ensures { result ≡ mark_of tally }
     {
@@ -43,6 +44,7 @@ impl Mark {
         }
     }
 
+    /// How bad a mark is, from 0 for skipped to 5 for failed.
     pub fn severity(self) -> u8
         ensures { result ≡ severity self }
     {
@@ -56,7 +58,7 @@ impl Mark {
         }
     }
 
-    /// The worse of both.
+    /// The worse of both marks.
     pub fn worse(self, other: Mark) -> Mark
         ensures { result ≡ worse self other }
     {
@@ -67,6 +69,7 @@ impl Mark {
         }
     }
 
+    /// The character that a grid shows for a mark.
     pub fn letter(self) -> &'static str
         ensures { result.now ≡ mark_letter self }
     {
@@ -80,7 +83,7 @@ impl Mark {
         }
     }
 
-    /// Its colour, as a terminal is told it: black or white on a colour, or that colour.
+    /// The terminal code of a mark's colour, as `32`: a foreground, for the two worst on a background.
     pub fn color(self) -> &'static str
         ensures { result.now ≡ color_code self }
     {
@@ -96,6 +99,7 @@ impl Mark {
 
 const COLOR_END: &str = "\x1b[0m";
 
+/// Adds the escape sequence by which a terminal begins a colour.
 fn push_color_start(text: &mut Vec<u8>, code: &str) -> Result<(), OutOfMemory>
     ensures { OnOk result (text.new.items ≡ text.old.items ++ color_start code.now) }
 {
@@ -104,7 +108,7 @@ fn push_color_start(text: &mut Vec<u8>, code: &str) -> Result<(), OutOfMemory>
     push(text, b"m")
 }
 
-/// Adds a text in a colour, where there are colours.
+/// Adds a text, in the colour of this terminal code where `colored`, and plain where not.
 pub fn push_painted(
     text: &mut Vec<u8>,
     colored: bool,
@@ -121,7 +125,8 @@ pub fn push_painted(
     push(text, COLOR_END.as_bytes())
 }
 
-/// Adds what stands before a mark behind another.
+/// Adds the escape sequences that end the colour of the mark `before`, None at the front, and begin that of `mark`;
+/// nothing where both are the same.
 fn push_color_change(
     text: &mut Vec<u8>,
     before: Option<Mark>,
@@ -138,7 +143,7 @@ fn push_color_change(
     push_color_start(text, mark.color())
 }
 
-/// Adds marks, each longest piece of one mark in its colour.
+/// Adds the letter of each mark in its colour. The escape sequences stand once round each stretch of equal marks.
 fn push_colored_marks(text: &mut Vec<u8>, marks: &[Mark]) -> Result<(), OutOfMemory>
     ensures { OnOk result (text.new.items ≡ text.old.items ++ colored_marks None marks.now) }
 {
@@ -154,7 +159,7 @@ fn push_colored_marks(text: &mut Vec<u8>, marks: &[Mark]) -> Result<(), OutOfMem
     Ok(())
 }
 
-/// Adds marks, in their colours where there are colours.
+/// Adds the letter of each mark, in its colour where `colored`, and plain where not.
 pub fn push_marks(text: &mut Vec<u8>, colored: bool, marks: &[Mark]) -> Result<(), OutOfMemory>
     ensures { OnOk result (text.new.items ≡ text.old.items ++ marks_text colored marks.now) }
 {
@@ -167,7 +172,8 @@ pub fn push_marks(text: &mut Vec<u8>, colored: bool, marks: &[Mark]) -> Result<(
     Ok(())
 }
 
-/// The worst of a task in the runs of a column.
+/// The worst mark of a task in these runs; skipped where there are no runs. A run without such a task counts as
+/// no_status.
 pub fn mark_in(alloc: Global, runs: &[&RunReport], task: u32) -> Result<Mark, OutOfMemory>
     ensures { IfOk result (λ mark. mark ≡ column_mark task (map (λ run. run.now) runs.now)) }
 {

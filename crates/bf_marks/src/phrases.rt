@@ -19,7 +19,7 @@ pub fn push(text: &mut Vec<u8>, bytes: &[u8]) -> Result<(), OutOfMemory>
     Ok(())
 }
 
-/// Adds a number, as 1,234.
+/// Adds a number, as 1,234: commas before each three digits.
 pub fn push_number(alloc: Global, text: &mut Vec<u8>, number: u64) -> Result<(), OutOfMemory>
     ensures { OnOk result (text.new.items ≡ text.old.items ++ number_text number) }
 {
@@ -28,7 +28,7 @@ pub fn push_number(alloc: Global, text: &mut Vec<u8>, number: u64) -> Result<(),
     push(text, shown.as_bytes())
 }
 
-/// Adds how many there are, as `1 run` or `2 runs`.
+/// Adds a number and the noun, with an s unless the number is 1, as `1 run` or `2 runs`.
 pub fn push_counted_noun(
     alloc: Global,
     text: &mut Vec<u8>,
@@ -42,7 +42,7 @@ pub fn push_counted_noun(
     push(text, shown.as_bytes())
 }
 
-/// A moment, of which midnight in UTC is left out.
+/// The text of a moment, whose time is left out where it is midnight in UTC, as `2024-01-25`.
 fn short_moment(moment: &[u8]) -> &[u8]
     requires long { 10 ≤ length moment.now }
     requires ascii { IsAscii moment.now }
@@ -55,7 +55,7 @@ fn short_moment(moment: &[u8]) -> &[u8]
     moment
 }
 
-/// Adds a moment, as short as it is written on a line.
+/// Adds a moment, as `2024-01-25T06:00:00Z`, or `2024-01-25` at midnight in UTC.
 pub fn push_moment(text: &mut Vec<u8>, moment: Timestamp) -> Result<(), OutOfMemory>
     requires { IsShown moment.nanosecond }
     ensures { OnOk result (text.new.items ≡ text.old.items ++ short_moment_of moment.nanosecond) }
@@ -63,7 +63,7 @@ pub fn push_moment(text: &mut Vec<u8>, moment: Timestamp) -> Result<(), OutOfMem
     push(text, short_moment(&moment_bytes(moment)))
 }
 
-/// The text of a moment, as short as it is written on a line.
+/// The text of a moment, as `2024-01-25T06:00:00Z`, or `2024-01-25` at midnight in UTC.
 fn short_moment_text(alloc: Global, moment: Moment) -> Result<Text, OutOfMemory>
     ensures { IfOk result (λ name. name ≡ short_moment_of moment.at.nanosecond) }
 {
@@ -74,6 +74,7 @@ fn short_moment_text(alloc: Global, moment: Moment) -> Result<Text, OutOfMemory>
     Text::copy_of(alloc, text)
 }
 
+/// The text of each moment, as `2024-01-25T06:00:00Z`, or `2024-01-25` at midnight in UTC.
 fn short_moment_texts(alloc: Global, moments: &[Moment]) -> Result<Vec<Text>, OutOfMemory>
     ensures { IfOk result (λ names. names.items ≡ short_moments moments.now) }
 {

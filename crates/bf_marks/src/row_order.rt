@@ -10,6 +10,7 @@ use bf_plan::Dag;
 use bf_value::OutOfMemory;
 use std::alloc::Global;
 
+/// Whether a task has no upstreams.
 fn has_no_upstreams(dag: &Dag, task: u32) -> bool
     requires { task < length dag.now.tasks }
     ensures { result ≡ has_no_upstreams_in dag.now task }
@@ -17,12 +18,14 @@ fn has_no_upstreams(dag: &Dag, task: u32) -> bool
     dag.task(task).upstreams.is_empty()
 }
 
+/// Whether `task` is one of these upstreams.
 fn waits_for(upstreams: &[u32], task: u32) -> bool
     ensures { result ≡ list_any (λ upstream. upstream == task) upstreams.now }
 {
     upstreams.iter().any(|upstream| *upstream == task)
 }
 
+/// Whether a task is already in the order of rows; false where there is no such task.
 fn stands_in(standing: &[bool], task: u32) -> bool
     ensures { result ≡ stands standing.now task }
 {
@@ -32,6 +35,7 @@ fn stands_in(standing: &[bool], task: u32) -> bool
     }
 }
 
+/// Marks a task as in the order of rows; does nothing where there is no such task.
 fn mark_standing(standing: &mut Vec<bool>, task: u32)
     ensures { standing.new.items ≡ slice_set standing.old.items task true }
 {
@@ -40,6 +44,7 @@ fn mark_standing(standing: &mut Vec<bool>, task: u32)
     }
 }
 
+/// Whether each of these upstreams is already in the order of rows.
 fn all_stand(upstreams: &[u32], standing: &[bool]) -> bool
     ensures { result ≡ list_all (stands standing.now) upstreams.now }
 {
@@ -48,7 +53,7 @@ fn all_stand(upstreams: &[u32], standing: &[bool]) -> bool
         .all(|upstream| stands_in(standing, *upstream))
 }
 
-/// Whether a task waits for nothing more, and waited for this one.
+/// Whether `task` is directly upstream of `other`, all of whose upstreams are already in the order of rows.
 fn is_let_go(dag: &Dag, standing: &[bool], task: u32, other: u32) -> bool
     requires { other < length dag.now.tasks }
     ensures { result ≡ is_let_go_in dag.now standing.now task other }
@@ -57,7 +62,7 @@ fn is_let_go(dag: &Dag, standing: &[bool], task: u32, other: u32) -> bool
     waits_for(upstreams, task) && all_stand(upstreams, standing)
 }
 
-/// The tasks that wait for nothing more, and waited for this one, in file order.
+/// The tasks directly downstream of `task` all of whose upstreams are already in the order of rows, in file order.
 fn let_go_by(
     alloc: Global,
     dag: &Dag,
@@ -91,7 +96,7 @@ fn tasks_without_upstreams(alloc: Global, dag: &Dag) -> Result<Vec<u32>, OutOfMe
     Ok(found)
 }
 
-/// The tasks that stand in the order, and those that are left to stand there, the next one last.
+/// The tasks that are in the order of rows already, as flags, and those that may come next, the next one last.
 #[derive(Drop)]
 struct Walk {
     standing: Vec<bool>,
@@ -99,7 +104,8 @@ struct Walk {
 }
 
 impl Walk {
-    /// The next task, with those behind it that it lets go.
+    /// Takes the next task of the order, and puts those that wait for nothing more than it before all others left;
+    /// None at the end.
     fn next(&mut self, alloc: Global, dag: &Dag) -> Result<Option<u32>, OutOfMemory>
         requires { IsSound dag.now }
         ensures none { IfOk result (λ next. IfNone next (reverse self.old.left.items ≡ [])) }
@@ -116,6 +122,7 @@ impl Walk {
     }
 }
 
+/// The walk before its first task, with the tasks without upstreams to come.
 fn first_walk(alloc: Global, dag: &Dag) -> Result<Walk, OutOfMemory>
     requires { IsSound dag.now }
     ensures standing { IfOk result
@@ -129,7 +136,8 @@ fn first_walk(alloc: Global, dag: &Dag) -> Result<Walk, OutOfMemory>
     Ok(Walk { standing, left })
 }
 
-/// The tasks, with the sources in file order, and behind each task those of its downstreams that wait for nothing more.
+/// The tasks in the order of a grid's rows: the sources in file order, and behind each task those of its downstreams
+/// that wait for nothing more. A task on a cycle, which no sound graph has, is left out.
 pub fn tasks_in_order(alloc: Global, dag: &Dag) -> Result<Vec<u32>, OutOfMemory>
     requires { IsSound dag.now }
     ensures { IfOk result (λ order. order.items ≡ order_of dag.now) }

@@ -7,8 +7,8 @@ use bf_value::OutOfMemory;
 use bf_xcom::{Outcome, RunState, TaskResult};
 use std::alloc::Global;
 
-/// How many instances of tasks in runs came to each state, where what was decided without a try counts as one; and whether
-/// one of them took more than one try.
+/// How many instances of tasks in runs came to each state, where what was decided without a try counts as one; and
+/// whether one of them took more than one try.
 #[derive(Clone, Copy, Debug, PartialEq, Eq)]
 pub struct Tally {
     pub success: u64,
@@ -20,7 +20,7 @@ pub struct Tally {
 }
 
 impl Tally {
-    /// Of no instance.
+    /// The tally of no instance.
     pub fn nothing() -> Tally
         ensures { result ≡ nothing }
     {
@@ -34,7 +34,7 @@ impl Tally {
         }
     }
 
-    /// Of an instance that ended so.
+    /// The tally of one instance that ended with this result.
     fn of_ended(instance: &TaskResult) -> Tally
         ensures { result ≡ one_ended instance.now.outcome instance.now.tries }
     {
@@ -59,7 +59,7 @@ impl Tally {
         }
     }
 
-    /// Of both.
+    /// The sums of both tallies.
     pub fn add(self, other: Tally) -> Tally
         ensures { result ≡ add self other }
     {
@@ -81,6 +81,7 @@ impl Tally {
     }
 }
 
+/// The tally of an instance in a report.
 fn tally_of_instance(alloc: Global, instance: &InstanceReport) -> Result<Tally, OutOfMemory>
     ensures { IfOk result (λ tally. tally ≡ instance_tally instance.now) }
 {
@@ -88,6 +89,7 @@ fn tally_of_instance(alloc: Global, instance: &InstanceReport) -> Result<Tally, 
     Ok(Tally::of_ended(&ended))
 }
 
+/// The tally of instances in a report.
 fn tally_of_instances(alloc: Global, instances: &[InstanceReport]) -> Result<Tally, OutOfMemory>
     ensures { IfOk result (λ tally. tally ≡ sum (map instance_tally instances.now)) }
 {
@@ -98,6 +100,7 @@ fn tally_of_instances(alloc: Global, instances: &[InstanceReport]) -> Result<Tal
     Ok(tally)
 }
 
+/// The tally of a task in a run, over its instances where it is expanded; one for a state without a try.
 fn tally_of_task(alloc: Global, task: &TaskReport) -> Result<Tally, OutOfMemory>
     ensures { IfOk result (λ tally. tally ≡ task_tally task.now) }
 {
@@ -120,7 +123,7 @@ fn tally_of_task(alloc: Global, task: &TaskReport) -> Result<Tally, OutOfMemory>
     }
 }
 
-/// Of the task in this place of a run. A place that a run doesn't have counts as no_status.
+/// The tally of a task in a run, by the task's place, from 0; one no_status where the run has no such place.
 pub fn tally_at(alloc: Global, run: &RunReport, task: u32) -> Result<Tally, OutOfMemory>
     ensures { IfOk result (λ tally. tally ≡ tally_in task run.now) }
 {
@@ -133,7 +136,7 @@ pub fn tally_at(alloc: Global, run: &RunReport, task: u32) -> Result<Tally, OutO
     }
 }
 
-/// Of a task in all runs.
+/// The tally of a task, by its place, from 0, over all of these runs.
 pub fn tally_in(alloc: Global, runs: &[&RunReport], task: u32) -> Result<Tally, OutOfMemory>
     ensures { IfOk result (λ tally. tally ≡ runs_tally task (map (λ run. run.now) runs.now)) }
 {
@@ -144,6 +147,7 @@ pub fn tally_in(alloc: Global, runs: &[&RunReport], task: u32) -> Result<Tally, 
     Ok(tally)
 }
 
+/// The tally of one run by its state.
 fn state_tally(state: RunState) -> Tally
     ensures { result ≡ state_tally_of state }
 {
@@ -160,7 +164,7 @@ fn state_tally(state: RunState) -> Tally
     }
 }
 
-/// Of the runs themselves.
+/// The tally of runs by their own states.
 pub fn tally_of_run_states(runs: &[RunReport]) -> Tally
     ensures { result ≡ states_tally runs.now }
 {
@@ -171,7 +175,7 @@ pub fn tally_of_run_states(runs: &[RunReport]) -> Tally
     tally
 }
 
-/// The same of some runs.
+/// The tally of these runs, which a grid shows, by their own states.
 pub fn tally_of_shown_states(runs: &[&RunReport]) -> Tally
     ensures { result ≡ states_tally (map (λ run. run.now) runs.now) }
 {
@@ -182,7 +186,7 @@ pub fn tally_of_shown_states(runs: &[&RunReport]) -> Tally
     tally
 }
 
-/// Of all tasks in a run.
+/// The tally of all tasks in a run.
 pub fn run_tally(alloc: Global, run: &RunReport) -> Result<Tally, OutOfMemory>
     ensures { IfOk result (λ tally. tally ≡ run_tally_of run.now) }
 {

@@ -4,8 +4,9 @@ ghost use Rattle.bf_marks.specs.GridViews.{in_range, starts_from_in, starts_up_t
 
 use jiff::Timestamp;
 
-/// What is asked of a grid: the moments from and up to which runs are shown, where there are such; whether only tasks and runs are
-/// shown with something that failed, is upstream_failed or has no status; its width in characters; and whether it has colours.
+/// What is asked of a grid: the moments from and up to which runs are shown, where there are such; whether only tasks
+/// and runs are shown with something that failed, is upstream_failed or has no status; its width in characters; and
+/// whether it has colours.
 #[derive(Clone, Copy, Debug)]
 pub struct View {
     pub from: Option<Timestamp>,
@@ -16,7 +17,7 @@ pub struct View {
 }
 
 impl View {
-    /// Whether a run that starts then lies in the range.
+    /// Whether a run that starts at this moment is shown: not before `from` and not after `to`, where they are given.
     pub fn has_start(&self, start: Timestamp) -> bool
         ensures { result ≡ in_range self.now start.nanosecond }
     {
@@ -24,6 +25,7 @@ impl View {
     }
 }
 
+/// Whether a run that starts at this moment doesn't start before `from`; true where that is None.
 fn starts_from(from: Option<Timestamp>, start: Timestamp) -> bool
     ensures { result ≡ starts_from_in from start.nanosecond }
 {
@@ -33,6 +35,7 @@ fn starts_from(from: Option<Timestamp>, start: Timestamp) -> bool
     }
 }
 
+/// Whether a run that starts at this moment doesn't start after `to`; true where that is None.
 fn starts_up_to(to: Option<Timestamp>, start: Timestamp) -> bool
     ensures { result ≡ starts_up_to_in to start.nanosecond }
 {

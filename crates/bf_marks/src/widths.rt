@@ -18,6 +18,7 @@ pub struct Widths {
     pub no_status: usize,
 }
 
+/// How many bytes wide a column of sums is whose greatest is this; 0 where it isn't shown.
 fn width_of(alloc: Global, shown: bool, greatest: u64) -> Result<usize, OutOfMemory>
     ensures { IfOk result (λ n. n ≡ width_in shown greatest) }
 {
@@ -29,9 +30,9 @@ fn width_of(alloc: Global, shown: bool, greatest: u64) -> Result<usize, OutOfMem
     Ok(text.len())
 }
 
-/// Adds what stands in a column of sums.
+/// Adds a space and a text, right-aligned in `width` bytes, to a row; nothing where `width` is 0.
 fn push_in_column(text: &mut Vec<u8>, width: usize, shown: &[u8]) -> Result<(), OutOfMemory>
-    ensures { OnOk result (text.new.items ≡ text.old.items ++ in_column width_in shown.now) }
+    ensures { OnOk result (text.new.items ≡ text.old.items ++ in_column width shown.now) }
 {
     if width == 0 {
         return Ok(());
@@ -40,9 +41,10 @@ fn push_in_column(text: &mut Vec<u8>, width: usize, shown: &[u8]) -> Result<(), 
     push_right_aligned(text, width, shown)
 }
 
-/// Adds a sum, and nothing for 0.
+/// Adds a space and a sum, right-aligned in `width` bytes, to a row: spaces alone for 0, and nothing where `width` is
+/// 0.
 fn push_sum(alloc: Global, text: &mut Vec<u8>, width: usize, number: u64) -> Result<(), OutOfMemory>
-    ensures { OnOk result (text.new.items ≡ text.old.items ++ sum_text width_in number) }
+    ensures { OnOk result (text.new.items ≡ text.old.items ++ sum_text width number) }
 {
     let mut shown = Vec::new(alloc);
     if number != 0 {
@@ -52,7 +54,8 @@ fn push_sum(alloc: Global, text: &mut Vec<u8>, width: usize, number: u64) -> Res
 }
 
 impl Widths {
-    /// By the sums over all tasks, and those of the runs.
+    /// How wide the columns of sums are, by `total`, the sums over all tasks, and `states`, those of the runs. A
+    /// state without any has no column.
     pub fn of(alloc: Global, total: Tally, states: Tally) -> Result<Widths, OutOfMemory>
         ensures { IfOk result (λ widths. widths ≡ widths_of total states) }
     {
@@ -66,7 +69,7 @@ impl Widths {
         })
     }
 
-    /// Adds the sums of a row.
+    /// Adds the sums of a tally to a row, each right-aligned in its column.
     pub fn push_sums(
         self,
         alloc: Global,
@@ -82,7 +85,7 @@ impl Widths {
         push_sum(alloc, text, self.no_status, tally.no_status)
     }
 
-    /// Adds the letters of the states that are shown.
+    /// Adds the letters of the states that have a column, each right-aligned in it.
     pub fn push_heads(self, text: &mut Vec<u8>) -> Result<(), OutOfMemory>
         ensures { OnOk result (text.new.items ≡ text.old.items ++ heads_text self) }
     {
@@ -94,7 +97,7 @@ impl Widths {
     }
 }
 
-/// Adds a name, cut in its middle where it has more bytes than there is room for.
+/// Adds a name; `..` stands for its middle where it has more than `room` bytes.
 pub fn push_cut_name(text: &mut Vec<u8>, room: usize, name: &[u8]) -> Result<(), OutOfMemory>
     requires { 2 ≤ room }
     ensures { OnOk result (text.new.items ≡ text.old.items ++ cut_name room name.now) }
@@ -108,9 +111,10 @@ pub fn push_cut_name(text: &mut Vec<u8>, room: usize, name: &[u8]) -> Result<(),
     push(text, &name[name.len() - (room - 2 - front)..])
 }
 
-/// What is left beside the sums of a state.
+/// How much of `room` is left beside a column of sums of this width and the space before it; all where the width is
+/// 0.
 fn room_beside(width: usize, room: usize) -> usize
-    ensures { result ≡ room_beside_of width_in room }
+    ensures { result ≡ room_beside_of width room }
 {
     if width == 0 {
         room
@@ -119,9 +123,9 @@ fn room_beside(width: usize, room: usize) -> usize
     }
 }
 
-/// How many columns there is room for.
+/// How many columns of runs fit into `width` beside names of `names` bytes and the columns of sums; at least 8.
 pub fn column_count_of(width: usize, names: usize, widths: Widths) -> usize
-    ensures room { result ≡ column_count_in width_in names widths }
+    ensures room { result ≡ column_count_in width names widths }
     ensures some { 8 ≤ result }
 {
     let room = width.saturating_sub(names).saturating_sub(4);

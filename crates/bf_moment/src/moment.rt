@@ -9,6 +9,7 @@ use jiff::civil::DateTime;
 use jiff::tz::Offset;
 use std::fmt;
 
+/// The year, month, day, hour, minute and second of a civil time.
 fn civil_fields_of(at: DateTime) -> (u16, u8, u8, u8, u8, u8)
     requires { IsShownDate at.date }
     ensures value { result ≡ fields at }
@@ -25,6 +26,7 @@ fn civil_fields_of(at: DateTime) -> (u16, u8, u8, u8, u8, u8)
     )
 }
 
+/// The ASCII digit of a number below 10.
 fn ascii_digit_of(n: u16) -> u8
     requires { n < 10 }
     ensures { result ≡ 48 + n }
@@ -32,6 +34,7 @@ fn ascii_digit_of(n: u16) -> u8
     b'0' + n as u8
 }
 
+/// The text `YYYY-MM-DDThh:mm:ssZ` of a civil time, in 20 bytes of ASCII.
 fn clock_bytes(at: DateTime) -> [u8; 20]
     requires { IsShownDate at.date }
     ensures text { result ≡ clock_text at }

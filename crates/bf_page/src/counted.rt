@@ -10,13 +10,15 @@ use bf_texts::page;
 /// The longest text of which fifteen, each byte of them as three, have fewer bytes than 64 bits can say.
 const LONGEST: usize = 288_230_376_151_711_744;
 
+/// Whether one of these texts is longer than LONGEST.
 fn has_long(texts: &[&[u8]]) -> bool
     ensures { result ≡ list_any (λ text. is_long text.now) texts.now }
 {
     texts.iter().any(|text| text.len() > LONGEST)
 }
 
-/// Whether a counter of 64 bits can count the bytes of a page. Memory has no room for one that it can't count.
+/// True only where a page of these texts has fewer bytes than 64 bits can count; false also for some pages that no
+/// memory holds.
 pub fn can_be_counted(texts: &PageTexts<'_>) -> bool
     ensures { result ≡ true → length (page_text texts.now) < 2 ^ 64 }
 {

@@ -5,13 +5,13 @@ ghost use Rattle.bf_page.specs.declared.page.PageTexts.{PageTexts};
 ghost use Rattle.bf_page.specs.Page.{page_text, fixed_text, TellTheSame};
 ghost use Rattle.bf_page.specs.Safe.{safe, plain, IsTame, is_tag, is_cell_byte};
 
-/// What stands on a page says the text that it is of, whatever that is.
+/// Each text is read back off what a page has of it, whatever the text is.
 pub fn texts_are_read_back()
     ensures { (text : List ℕ) → plain (safe text) ≡ text }
 {}
 
-/// No `<` stands where a text does, so all tags of a page are those of its fixed pieces; and no carriage return or U+0000,
-/// which a browser would change.
+/// What a page has of a text has no `<`, so all tags of a page are those of its fixed pieces; and no carriage return
+/// or U+0000, which a browser would change.
 pub fn no_text_has_a_tag()
     ensures { (text : List ℕ) → All IsTame (safe text) }
 {}
@@ -26,7 +26,7 @@ pub fn all_tags_are_fixed()
     ensures { (texts : PageTexts) → filter is_tag (page_text texts) ≡ filter is_tag fixed_text }
 {}
 
-/// The seven texts are read off a page: pages that are the same tell the same.
+/// The seven texts are read off a page: equal pages have equal texts.
 pub fn pages_differ_where_texts_do()
     ensures { (one two : PageTexts) → page_text one ≡ page_text two → TellTheSame one two }
 {}

@@ -8,8 +8,9 @@ use crate::sending::{Piece, send_pieces};
 use bf_device::{Write, WriteFault};
 use bf_texts::page;
 
-/// What a page tells: the words of the line for the three paths, of which the zone file's is empty where there is none; the
-/// cells; the graph file; the report, which is empty where it is left out; and the times of a journal, where there is one.
+/// What a page tells: the words of the line for the three paths, of which the zone file's is empty where there is
+/// none; the cells; the graph file; the report, which is empty where it is left out; and the times of a journal,
+/// where there is one.
 #[derive(Clone, Copy, Debug)]
 pub struct PageTexts<'a> {
     pub graph_path: &'a str,
@@ -21,8 +22,8 @@ pub struct PageTexts<'a> {
     pub times: &'a str,
 }
 
-/// Writes a page, in whatever parts the device takes. It gives up where a write fails or takes nothing, and at the 1,001st
-/// interruption. The fault counts the bytes that went out, as a counter of 64 bits does.
+/// Writes a page, in whatever parts the device takes. It gives up where a write fails or takes nothing, and at the
+/// 1,001st interruption. The fault counts the bytes that went out, as a counter of 64 bits does.
 pub fn write_page<W: Write>(texts: &PageTexts<'_>, out: &mut W) -> Result<(), WriteFault>
     ensures ok { OnOk result (W.written out.new
         ≡ sent (W.written out.old) (page_text texts.now)) }

@@ -15,7 +15,8 @@ pub(crate) struct Piece<'a> {
     pub(crate) told: &'a [u8],
 }
 
-/// What of a text is still to go out: bytes as they lie in memory, a text that is told behind them, and further pieces.
+/// What of a text is still to go out: bytes as they lie in memory, a text that is told behind them, and further
+/// pieces.
 #[derive(Clone, Copy)]
 pub(crate) struct Rest<'a> {
     front: &'a [u8],
@@ -23,7 +24,8 @@ pub(crate) struct Rest<'a> {
     pieces: &'a [Piece<'a>],
 }
 
-/// Brings the next bytes to the front. There may be none, and more pieces behind them.
+/// The next bytes to write and what is behind them, where `told` is left of a text and then these pieces. The bytes
+/// may be none. None where nothing is left.
 fn next_rest<'a>(told: &'a [u8], pieces: &'a [Piece<'a>]) -> Option<Rest<'a>>
     ensures none { IfNone result (behind told.now pieces.now ≡ []) }
     ensures some { IfSome result (λ rest. left rest ≡ behind told.now pieces.now) }
@@ -48,6 +50,7 @@ fn next_rest<'a>(told: &'a [u8], pieces: &'a [Piece<'a>]) -> Option<Rest<'a>>
     }
 }
 
+/// The fault of a device that failed after it took `sent` bytes.
 fn halted_after(sent: u64) -> WriteFault
     ensures sent { result.sent ≡ sent }
     ensures cause { result.cause ≡ Cause.Io }
@@ -58,8 +61,8 @@ fn halted_after(sent: u64) -> WriteFault
     }
 }
 
-/// Writes a text that is given in pieces, in whatever parts the device takes. It gives up where a write fails or takes nothing, and
-/// at the 1,001st interruption.
+/// Writes these pieces, each text escaped, in whatever parts the device takes. A fault where a write fails or takes
+/// nothing, and at the 1,001st interruption; it says how many bytes went out.
 pub(crate) fn send_pieces<W: Write>(out: &mut W, pieces: &[Piece<'_>]) -> Result<(), WriteFault>
     ensures ok { OnOk result (W.written out.new
         ≡ sent (W.written out.old) (flat_map piece_text pieces.now)) }

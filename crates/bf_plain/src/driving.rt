@@ -18,7 +18,7 @@ use bf_try::{Done, RunnerFault, TaskRunner, Ticket};
 use bf_workers::Workers;
 use std::alloc::Global;
 
-/// The fault that comes of a try without an answer.
+/// The fault of a backfill whose runner gave no answer to this ticket: want of memory, or that it gave up the try.
 fn fault_of(ticket: Ticket, fault: RunnerFault) -> BackfillFault
     ensures { result ≡ fault_by ticket fault }
 {
@@ -28,7 +28,7 @@ fn fault_of(ticket: Ticket, fault: RunnerFault) -> BackfillFault
     }
 }
 
-/// The runner's answer to a try.
+/// The runner's answer to the try of a ticket; a fault where it gives none.
 fn answer_to<R: TaskRunner>(runner: &R, ticket: Ticket) -> Result<Done, BackfillFault>
     ensures ok { IfOk result (λ done. (done.name ≡ ticket.name) × (done.given ≡ ticket.given)
         × R.may_answer runner.now ticket.name ticket.given done.raw) }
@@ -40,7 +40,7 @@ fn answer_to<R: TaskRunner>(runner: &R, ticket: Ticket) -> Result<Done, Backfill
     }
 }
 
-/// Makes the try of a ticket, which has begun.
+/// Runs the try of a ticket, which has begun, and ends it by the runner's answer; a fault where there is no answer.
 fn make_try<R: TaskRunner>(
     runner: &R,
     scheduler: &mut Scheduler<'_>,
@@ -61,8 +61,8 @@ fn make_try<R: TaskRunner>(
     Ok(())
 }
 
-/// One event by itself, one try from its begin to its end, or the moment for which a try waits. False where the backfill has
-/// ended.
+/// Lets one event come by itself, or makes one try from its begin to its end, or moves the clock to the moment for
+/// which a try waits. False where the backfill has ended; a fault where the runner gives no answer.
 fn turn<R: TaskRunner>(runner: &R, scheduler: &mut Scheduler<'_>) -> Result<bool, BackfillFault>
     requires { IsIdle scheduler.old }
     ensures idle { OnOk result (IsIdle scheduler.new) }
@@ -93,7 +93,8 @@ fn turn<R: TaskRunner>(runner: &R, scheduler: &mut Scheduler<'_>) -> Result<bool
     }
 }
 
-/// Turns until the backfill has ended. It does: each turn adds an event, and no journal outgrows memory.
+/// Turns until the backfill has ended, or the runner gives no answer. One comes: each turn adds an event, and no
+/// journal outgrows memory.
 fn all_turns<R: TaskRunner>(runner: &R, scheduler: &mut Scheduler<'_>) -> Result<(), BackfillFault>
     requires { IsIdle scheduler.old }
     ensures driven { OnOk result (StaysDriven (R.may_answer runner.now) scheduler.old
@@ -110,7 +111,7 @@ fn all_turns<R: TaskRunner>(runner: &R, scheduler: &mut Scheduler<'_>) -> Result
     Ok(())
 }
 
-/// Drives a backfill from its start to its end.
+/// Drives a backfill from its start to its end; a fault where the runner gives no answer.
 fn drive<'p, N: RunCount, R: TaskRunner>(
     alloc: Global,
     plan: &'p Plan,
@@ -135,8 +136,9 @@ fn drive<'p, N: RunCount, R: TaskRunner>(
     }
 }
 
-/// The end of a backfill of a plan over these runs, whose tries the runner answers, one after the other in this thread. A
-/// try that waits for a moment is made once nothing else is left to do, and no time passes.
+/// The end of a backfill of a plan over these runs, whose tries the runner answers, one after the other in this
+/// thread. A try that waits for a moment is made once nothing else is left to do, and no time passes. One that the
+/// runner gives up is the fault `Runner`.
 pub fn one_by_one<'p, N: RunCount, R: TaskRunner>(
     alloc: Global,
     plan: &'p Plan,

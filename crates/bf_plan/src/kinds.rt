@@ -31,7 +31,7 @@ pub enum ContextVariable {
 }
 
 impl TaskKind {
-    /// The kind with this name.
+    /// The kind of task with this name in a graph file; None where no kind has it.
     #[tactic(auto, unfolding(crate::specs::Kinds::kind_named))]
     pub fn named(name: &str) -> Option<TaskKind>
         ensures { result ≡ kind_named name.now }
@@ -45,7 +45,7 @@ impl TaskKind {
 }
 
 impl WeightRule {
-    /// The rule with this name.
+    /// The weight rule with this name in a graph file; None where no rule has it.
     #[tactic(auto, unfolding(crate::specs::Kinds::weight_rule_named))]
     pub fn named(name: &str) -> Option<WeightRule>
         ensures { result ≡ weight_rule_named name.now }
@@ -60,7 +60,7 @@ impl WeightRule {
 }
 
 impl ContextVariable {
-    /// The variable with this name.
+    /// The context variable with this name in a graph file; None where no variable has it.
     #[tactic(auto, unfolding(crate::specs::Kinds::context_named))]
     pub fn named(name: &str) -> Option<ContextVariable>
         ensures { result ≡ context_named name.now }

@@ -14,8 +14,8 @@ pub struct GraphSize {
     pub edges: usize,
 }
 
-/// Checks a graph file, and tells the size of its graph. The bytes of a zone file are looked at only where the graph's zone is
-/// `file`.
+/// Checks a graph file, as its bytes, and gives the size of its graph, or the fault by which it is refused. The bytes
+/// of a zone file are looked at only where the graph's zone is `file`.
 pub fn check_graph(
     alloc: Global,
     graph: &[u8],

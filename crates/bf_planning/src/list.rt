@@ -14,6 +14,7 @@ use bf_moment::Moment;
 use bf_value::OutOfMemory;
 use std::alloc::Global;
 
+/// Adds the line of a data interval: its start, a space, its end and a line feed.
 fn push_interval(text: &mut String, interval: &Interval) -> Result<(), OutOfMemory>
     requires { IsSince1970 interval.now }
     ensures { OnOk result (string_bytes text.new ≡ string_bytes text.old
@@ -24,7 +25,7 @@ fn push_interval(text: &mut String, interval: &Interval) -> Result<(), OutOfMemo
     Ok(())
 }
 
-/// A line for each interval: its start and its end, separated by a space.
+/// A line for each interval, its line feed included: its start and its end, separated by a space.
 fn text_of_intervals(alloc: Global, intervals: &[Interval]) -> Result<String, OutOfMemory>
     requires { All IsSince1970 intervals.now }
     ensures { IfOk result (λ text. string_bytes text ≡ intervals_text intervals.now) }
@@ -36,7 +37,9 @@ fn text_of_intervals(alloc: Global, intervals: &[Interval]) -> Result<String, Ou
     Ok(text)
 }
 
-/// Writes a line for each data interval of the graph's schedule that starts in the range, its ends included, in order.
+/// Writes a line for each data interval of the graph's schedule that starts in the range, its ends included, in
+/// order. Nothing is written where the graph is refused or the runs can't be listed; a failed write tells how much
+/// was.
 pub fn write_list<W: Write>(
     alloc: Global,
     graph: &[u8],

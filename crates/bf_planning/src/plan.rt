@@ -31,7 +31,8 @@ pub struct TimedPlan {
 }
 
 impl TimedPlan {
-    /// A run for each data interval of the plan's schedule that starts there.
+    /// A run for each data interval of the plan's schedule that starts where `starts` says, its ends included; a
+    /// fault where they can't be listed. None starting is no fault.
     fn runs_from_starts(&self, alloc: Global, starts: Starts) -> Result<Runs, IntervalFault>
         requires { IsSaid self.now.plan.schedule }
         ensures { (zone : TimeZone) × IsZoneOf self.now.zone zone
@@ -49,7 +50,8 @@ impl TimedPlan {
         }
     }
 
-    /// A run for each data interval of the plan's schedule that starts in the range.
+    /// A run for each data interval of the plan's schedule that starts in the range, its ends included. A fault where
+    /// they can't be listed, or where there is none though `range.some` asks for one.
     pub fn runs(&self, alloc: Global, range: RunRange) -> Result<Runs, CommandFault>
         requires { IsSaid self.now.plan.schedule }
         ensures ok { IfOk result (λ runs. (graph : List ℕ) (file : Option (List ℕ))
@@ -76,7 +78,9 @@ impl TimedPlan {
         clocks_of(alloc, &zone, runs)
     }
 
-    /// With a run for each data interval of the plan's schedule that starts in the range.
+    /// The plan with a run for each data interval of its schedule that starts in the range, its ends included, and
+    /// the runs' clocks. A fault where the runs can't be listed, or where there is none though `range.some` asks for
+    /// one.
     pub fn into_dated(self, alloc: Global, range: RunRange) -> Result<DatedPlan, CommandFault>
         requires { IsSaid self.plan.schedule }
         ensures plan { IfOk result (λ dated. dated.plan ≡ self.plan) }
@@ -100,7 +104,7 @@ impl TimedPlan {
     }
 }
 
-/// The table that a file says.
+/// The table that the bytes of a table file say, or the fault by which it is refused.
 pub fn table_in(alloc: Global, bytes: &[u8]) -> Result<Table, CommandFault>
     ensures ok { IfOk result (λ table. table_in bytes.now ≡ Ok table) }
     ensures fault { IfErr result (IsTableFault bytes.now) }
@@ -109,7 +113,7 @@ pub fn table_in(alloc: Global, bytes: &[u8]) -> Result<Table, CommandFault>
     Ok(table)
 }
 
-/// What a graph file says.
+/// The draft that the bytes of a graph file say, before it is checked; a fault where they say none.
 pub(crate) fn draft_in(alloc: Global, graph: &[u8]) -> Result<Draft, CommandFault>
     ensures ok { IfOk result (IsFileOf graph.now) }
     ensures fault { IfErr result (λ f. (file : Option (List ℕ)) → IsFaultIn graph.now file f) }
@@ -118,7 +122,8 @@ pub(crate) fn draft_in(alloc: Global, graph: &[u8]) -> Result<Draft, CommandFaul
     Ok(draft)
 }
 
-/// The plan of a graph file, with its zone.
+/// The plan of a graph file, with its zone, or the fault by which it is refused. `zone_file` has the bytes for the
+/// zone `file`.
 pub fn timed_plan_in(
     alloc: Global,
     graph: &[u8],
@@ -144,7 +149,9 @@ pub struct DatedPlan {
     pub clocks: Vec<Moment>,
 }
 
-/// The plan of a graph file, and a run for each data interval of its schedule that starts in the range, its ends included.
+/// The plan of a graph file, and a run for each data interval of its schedule that starts in the range, its ends
+/// included. A fault where the file is refused, the runs can't be listed, or there is none though `range.some` asks
+/// for one.
 pub fn dated_plan_in(
     alloc: Global,
     graph: &[u8],

@@ -4,8 +4,8 @@ ghost use Rattle.bf_graph.specs.Ranks.{Ranking};
 ghost use Rattle.bf_graph.specs.Reach.{Reaches};
 ghost use Rattle.bf_pool.specs.Weights.{does_reach};
 
-/// The test by which tasks count for a weight finds a path exactly where one leads. Where each task has a rank, as in
-/// every graph, no path is longer than the test looks.
+/// A law: the test by which tasks count for a weight finds a path exactly where one leads. Where each task has a
+/// rank, as in every graph, no path is longer than the test looks.
 pub fn reaches_where_a_path_leads()
     ensures { (upstreams : List (List ℕ)) → Ranking upstreams → (from to : ℕ) →
         (does_reach upstreams from to ≡ true) ↔ Reaches upstreams from to }

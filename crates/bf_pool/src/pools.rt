@@ -61,7 +61,7 @@ impl Pools {
         self.occupied[pool as usize]
     }
 
-    /// Takes slots of a pool, where they fit beside those that are occupied.
+    /// Takes slots of a pool; `NoRoom`, and nothing changes, where they don't fit beside those that are occupied.
     pub fn take(&mut self, pool: u32, slots: u32) -> Result<(), NoRoom>
         requires { pool < length self.old.sizes }
         ensures fits { IsOk result ↔ (occupied_of self.old pool + slots ≤ size_of self.old pool) }

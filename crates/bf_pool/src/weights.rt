@@ -8,7 +8,7 @@ use bf_plan::{Limits, Plan, WeightRule};
 use bf_value::OutOfMemory;
 use std::alloc::Global;
 
-/// The tasks that count for a task beside itself.
+/// The tasks whose weights count for a task beside its own, by its weight rule.
 fn tasks_counting_for(
     alloc: Global,
     graph: &Graph,
@@ -27,7 +27,7 @@ fn tasks_counting_for(
     }
 }
 
-/// The weights of tasks in all.
+/// The sum of the own weights of these tasks.
 fn weight_sum(limits: &Limits, tasks: &[u32]) -> u32
     requires few { length tasks.now ≤ 2_000 }
     requires there { All (λ t. t < length limits.now.demands) tasks.now }

@@ -14,7 +14,7 @@ use jiff::Timestamp;
 use jiff::tz::TimeZone;
 use std::alloc::Global;
 
-/// What a clock of the zone shows at a moment.
+/// What a clock of the zone shows at the moment `at`, as a moment of UTC: that moment with the zone's offset added.
 fn clock_at(zone: &TimeZone<'_>, at: Timestamp) -> Moment
     requires { IsSecondTo2208 at.nanosecond }
     ensures { result.at.nanosecond ≡ clock_in (plain_zone zone.now) at.nanosecond }
@@ -43,7 +43,8 @@ pub fn clocks_of(
     Ok(clocks)
 }
 
-/// The clock of a run by its number, and without one the run's moment.
+/// What the clock shows at the moment of the run with this number, from 0; where `clocks` has none for it, the start
+/// of the run's data interval, as UTC's clock shows it.
 pub(crate) fn clock_of_run<'a>(
     clocks: &'a [Moment],
     run: u32,
@@ -58,6 +59,7 @@ pub(crate) fn clock_of_run<'a>(
     }
 }
 
+/// A text of these bytes, which are ASCII.
 fn text_of_ascii(alloc: Global, bytes: &[u8]) -> Result<String, OutOfMemory>
     requires { IsAscii bytes.now }
     ensures { IfOk result (λ text. string_bytes text ≡ bytes.now) }
@@ -77,7 +79,7 @@ pub(crate) fn text_of_date(alloc: Global, clock: &Moment) -> Result<String, OutO
     text_of_ascii(alloc, &[y, e, a, r, after_year, m, o, after_month, d, i])
 }
 
-/// The same without dashes, as `20240304`.
+/// The date that a clock shows, without dashes, as `20240304`.
 #[tactic(auto, unfolding(bf_moment::specs::Moment::moment_text))]
 pub(crate) fn digits_of_date(alloc: Global, clock: &Moment) -> Result<String, OutOfMemory>
     ensures { IfOk result (λ text. string_bytes text ≡ date_digits clock.now.at.nanosecond) }

@@ -4,7 +4,7 @@ use bf_value::{OutOfMemory, Xval, text_of};
 use bf_xcom::Given;
 use std::alloc::Global;
 
-/// The compact JSON text of a value, and `null` of none.
+/// Adds the compact JSON text of a value, or `null` for none. No clause says so.
 fn push_value(alloc: Global, text: &mut String, value: Option<&Xval>) -> Result<(), OutOfMemory> {
     match value {
         Some(value) => text.push_str(text_of(alloc, value)?.as_str())?,
@@ -13,7 +13,7 @@ fn push_value(alloc: Global, text: &mut String, value: Option<&Xval>) -> Result<
     Ok(())
 }
 
-/// What is pulled from a task, behind its id. An id needs no escapes.
+/// Adds `"ID":` and the JSON text of what is pulled from the task with this id. No clause says so.
 fn push_pull(
     alloc: Global,
     text: &mut String,
@@ -26,7 +26,7 @@ fn push_pull(
     push_value(alloc, text, value)
 }
 
-/// The id of a task by its number.
+/// The id of a task by its number, empty where there is no such task. No clause says so.
 fn id_of(dag: &Dag, task: u32) -> &str {
     match dag.tasks.get(task as usize) {
         Some(task) => task.id.as_str(),
@@ -34,16 +34,17 @@ fn id_of(dag: &Dag, task: u32) -> &str {
     }
 }
 
-/// What is pulled by a place among the pulls.
+/// What the pull at a place, from 0, gives; None where nothing was pulled, or there is no such place. No clause says
+/// so.
 fn pulled_at(given: &Given, place: usize) -> Option<&Xval> {
     match given.pulled.get(place) {
-        Some(pulled_at) => pulled_at.get(),
+        Some(pulled) => pulled.get(),
         None => None,
     }
 }
 
-/// What a try was given, as `{"item":..,"pulls":{"ID":..}}`: the item of an instance of an expanded task, and what is pulled from
-/// each task; `null` where there is nothing.
+/// What a try was given, as `{"item":..,"pulls":{"ID":..}}` without a line feed: the item of an instance of an
+/// expanded task, and what is pulled from each task; `null` where there is nothing. No clause says so.
 pub(crate) fn given_text(
     alloc: Global,
     dag: &Dag,

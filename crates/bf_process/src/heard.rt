@@ -12,7 +12,7 @@ pub struct Heard {
 }
 
 impl Heard {
-    /// What is heard where nothing more is known.
+    /// The answer of a try, of which nothing more is known. The clause speaks of the raw answer alone.
     pub(crate) fn without_detail(raw: Raw) -> Heard
         ensures { result.raw ≡ raw }
     {

@@ -15,8 +15,8 @@ pub const LONGEST_OUTPUT: usize = 1_048_576;
 /// How many bytes one read may give.
 const ROOM: usize = 8_192;
 
-/// Reads to the end of what a device gives, or past the limit, and takes the last line. It gives up where a read fails, and at
-/// the 1,001st interruption.
+/// Reads a device to its end, and takes the last line, without its line feed. `TooMuch` for more than 1,048,576
+/// bytes, behind which nothing is read; `ReadFault` where a read fails, and at the 1,001st interruption.
 pub fn line_of<R: Read>(alloc: Global, device: &mut R) -> Result<Line, OutOfMemory>
     ensures line { IfOk result (λ line. IfSome (R.left device.old)
         (λ output. IsLineOf output line)) }

@@ -1,7 +1,7 @@
 //! What went wrong with logs.
 use std::sync::atomic::{AtomicBool, Ordering};
 
-/// What went wrong with the logs of tries, as the threads note it that run them.
+/// What went wrong with the logs of tries, as the threads note it that run them. No clause says what is noted.
 #[derive(Drop)]
 pub struct LogFaults {
     cannot_make: AtomicBool,
@@ -9,7 +9,7 @@ pub struct LogFaults {
 }
 
 impl LogFaults {
-    /// Nothing yet.
+    /// No faults yet.
     pub(crate) fn new() -> LogFaults {
         LogFaults {
             cannot_make: AtomicBool::new(false),
@@ -27,12 +27,12 @@ impl LogFaults {
         self.lost_some.store(true, Ordering::SeqCst);
     }
 
-    /// Whether a log couldn't be made. Then its try was given up.
+    /// Whether a log couldn't be made, so that its try was given up.
     pub fn has_unmade_log(&self) -> bool {
         self.cannot_make.load(Ordering::SeqCst)
     }
 
-    /// Whether a log isn't whole that was made.
+    /// Whether a log that was made isn't whole.
     pub fn has_incomplete_log(&self) -> bool {
         self.lost_some.load(Ordering::SeqCst)
     }

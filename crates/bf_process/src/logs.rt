@@ -21,7 +21,7 @@ pub(crate) struct OpenLogs<'f> {
     pub(crate) err: File,
 }
 
-/// Whether a folder stands there. A link to one is none.
+/// Whether a folder is at a path; false for a link to one, and where the path can't be looked at.
 fn is_folder(files: &HostRuntime, path: &str) -> bool {
     match fs::symlink_metadata(files, path) {
         Ok(there) => there.is_dir(),
@@ -29,7 +29,7 @@ fn is_folder(files: &HostRuntime, path: &str) -> bool {
     }
 }
 
-/// Makes a folder, unless it is there. It is looked for first, since threads that make what is there wait for each other.
+/// Makes a folder, unless it is there; an error where it can't, as where a link is at the path.
 fn make_folder(files: &HostRuntime, path: &str) -> io::Result<()> {
     if is_folder(files, path) {
         return Ok(());
@@ -41,7 +41,7 @@ fn make_folder(files: &HostRuntime, path: &str) -> io::Result<()> {
     }
 }
 
-/// Makes the folder of all logs with those that it stands in, unless it is there. It may be a link to one.
+/// Makes the folder of all logs, with the folders above it, unless it is there; a link to a folder will do.
 fn make_logs_folder(files: &HostRuntime, path: &str) -> io::Result<()> {
     match fs::metadata(files, path) {
         Ok(there) if there.is_dir() => Ok(()),
@@ -49,7 +49,7 @@ fn make_logs_folder(files: &HostRuntime, path: &str) -> io::Result<()> {
     }
 }
 
-/// The folder that a path stands in.
+/// The path of the folder that holds what is at a path, without the `/` behind it; empty where the path has no `/`.
 fn folder_of(path: &str) -> &str {
     match path.rsplit_once('/') {
         Some((folder, _)) => folder,
@@ -57,7 +57,8 @@ fn folder_of(path: &str) -> &str {
     }
 }
 
-/// Makes the folders of a log: that of all logs, and below it those of the graph, of the run and of the task.
+/// Makes the folders of a log with this path: that of all logs, and below it those of the graph, of the run and of
+/// the task. They are left as they are where they exist.
 fn make_folders_of_log(files: &HostRuntime, path: &str) -> io::Result<()> {
     let task = folder_of(path);
     let run = folder_of(task);
@@ -68,7 +69,7 @@ fn make_folders_of_log(files: &HostRuntime, path: &str) -> io::Result<()> {
     make_folder(files, task)
 }
 
-/// A new file that is written at its end.
+/// Creates a file at a path and opens it to be written at its end; an error where something is at the path already.
 fn create_log(files: &HostRuntime, path: &str) -> io::Result<File> {
     OpenOptions::new()
         .append(true)
@@ -76,7 +77,8 @@ fn create_log(files: &HostRuntime, path: &str) -> io::Result<File> {
         .open(files, path)
 }
 
-/// An empty file that is written at its end. What stands in its place is removed, so that a link there isn't followed.
+/// Creates an empty file at a path and opens it to be written at its end. What was at the path is removed, and of a
+/// link the link itself.
 fn replace_log(files: &HostRuntime, path: &str) -> io::Result<File> {
     match create_log(files, path) {
         Err(error) if error.kind() == ErrorKind::AlreadyExists => {
@@ -87,7 +89,8 @@ fn replace_log(files: &HostRuntime, path: &str) -> io::Result<File> {
     }
 }
 
-/// Writes what a try was given, and makes its two other logs.
+/// Writes the file of what a try was given, and creates those of its output and its standard error, with their
+/// folders; an error where one can't be made. No clause says so.
 pub(crate) fn open_logs<'f>(
     files: &HostRuntime,
     logs: &TryLogs,
@@ -102,8 +105,8 @@ pub(crate) fn open_logs<'f>(
     })
 }
 
-/// Writes the system's words for a program that wasn't started behind its standard error, as
-/// `backfill: /no/such: No such file or directory`. Where that fails, nothing is left to say so on.
+/// Adds the system's words for a program that wasn't started to the log of its standard error, as `backfill:
+/// /no/such: No such file or directory`; nothing where it was started. A failed write is told nowhere.
 pub(crate) fn note_start_fault(files: &HostRuntime, logs: &TryLogs, program: &str, heard: &Heard) {
     let Some(Detail::NotStarted(words)) = &heard.detail else {
         return;

@@ -53,7 +53,8 @@ impl<'s, 'p, 'i, 'l, S> Model for ProcessRunner<'s, 'p, 'i, 'l, S> {
 }
 
 impl<'s, 'p, 'i, 'l, S: Starter> ProcessRunner<'s, 'p, 'i, 'l, S> {
-    /// A runner of the tasks of a plan in these runs. It takes no memory before it runs a try.
+    /// A runner of the tasks of a plan in these runs, by the launcher and with the logs of `launching`, where there
+    /// are any. It takes no memory before it runs a try.
     pub fn new(
         starter: &'s S,
         alloc: Global,
@@ -78,12 +79,14 @@ impl<'s, 'p, 'i, 'l, S: Starter> ProcessRunner<'s, 'p, 'i, 'l, S> {
         }
     }
 
-    /// What went wrong with the logs of its tries.
+    /// What went wrong with the logs of its tries so far.
     pub fn log_faults(&self) -> &LogFaults {
         &self.log_faults
     }
 
-    /// What comes of these words in a setting. Without a word nothing is started, and no launcher either.
+    /// Starts the program that the first of these words names, or the launcher, if there is one, with all of them,
+    /// and gives its answer. Without a word nothing is started, and the status is 0. `GaveUp` where the program is
+    /// lost.
     fn run_words(&self, words: &[String], setting: &Setting<'_, '_>) -> Result<Heard, RunnerFault>
         ensures heard { IfOk result (λ heard. IfProgram (texts words.now) (heard.raw ≡ nothing_done)
             (S.may_hear self.now.starter (launched_in setting.now
@@ -105,7 +108,7 @@ impl<'s, 'p, 'i, 'l, S: Starter> ProcessRunner<'s, 'p, 'i, 'l, S> {
         }
     }
 
-    /// The logs of a try that is given this, where they are kept.
+    /// Where the logs of a try go, and the text of what it is given; None where no logs are kept.
     fn logs_of_try(
         &self,
         task: &Task,
@@ -123,7 +126,8 @@ impl<'s, 'p, 'i, 'l, S: Starter> ProcessRunner<'s, 'p, 'i, 'l, S> {
         Ok(Some(TryLogs::in_folder(self.alloc, folder, context, given_text)?))
     }
 
-    /// What comes of the command of a task for a try that is given this.
+    /// Runs the command of a task for a try in the run with this number, given this, and gives its answer; `GaveUp`
+    /// where its program is lost.
     fn run_command(
         &self,
         task: &Task,
@@ -157,7 +161,8 @@ impl<'s, 'p, 'i, 'l, S: Starter> ProcessRunner<'s, 'p, 'i, 'l, S> {
         self.run_words(words.as_slice(), &setting)
     }
 
-    /// What the try of this name answers, given this.
+    /// Runs the try of this name, which is given this, and gives its answer: not started, where its task or run isn't
+    /// there. `GaveUp` where its program is lost.
     fn run_try(&self, name: JobName, given: &Given) -> Result<Heard, RunnerFault>
         ensures ok { IfOk result (λ heard.
             MayAnswer (through self.now.launching (S.may_hear self.now.starter)) self.now.dag
@@ -185,6 +190,7 @@ impl<'s, 'p, 'i, 'l, S: Starter> TaskRunner for ProcessRunner<'s, 'p, 'i, 'l, S>
     ghost may_give_up = { λ s n g. MayGiveUp
         (lost_through s.launching (S.may_lose s.starter)) s.dag s.intervals n g };
 
+    /// Runs the try's program. Where there is no answer the ticket comes back.
     fn run(&self, ticket: Ticket) -> Result<Done, (Ticket, RunnerFault)> {
         let (done, _) = self.run_in_detail(ticket)?;
         Ok(done)
@@ -192,6 +198,8 @@ impl<'s, 'p, 'i, 'l, S: Starter> TaskRunner for ProcessRunner<'s, 'p, 'i, 'l, S>
 }
 
 impl<'s, 'p, 'i, 'l, S: Starter> DetailedRunner for ProcessRunner<'s, 'p, 'i, 'l, S> {
+    /// Runs the try's program. Beside the answer it gives the signal that ended the program, or the system's words
+    /// for why it wasn't started.
     fn run_in_detail(
         &self,
         ticket: Ticket,

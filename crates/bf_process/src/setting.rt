@@ -9,7 +9,7 @@ use bf_value::OutOfMemory;
 use bf_words::JobContext;
 use std::alloc::Global;
 
-/// Where the logs of a try stand, and what is written there of what it was given.
+/// The paths of the logs of a try, and the text that is written there of what it was given.
 #[derive(Debug, Drop)]
 pub struct TryLogs {
     /// The path of all that it writes to its standard output.
@@ -23,7 +23,8 @@ pub struct TryLogs {
 }
 
 impl TryLogs {
-    /// The logs of a try below a folder.
+    /// The paths of the logs of a try below the folder of all logs, and `given_text`, the text of what the try was
+    /// given.
     pub fn in_folder(
         alloc: Global,
         folder: &str,
@@ -59,7 +60,7 @@ pub struct Setting<'c, 'l> {
 }
 
 impl<'c, 'l> Setting<'c, 'l> {
-    /// The path of what the try was given, where that is written.
+    /// The path of the file that says what the try was given; None where no logs are kept.
     pub fn path_of_given(&self) -> Option<&str>
         ensures { option_map (λ path. path.now) result
             ≡ option_map (λ logs. string_bytes logs.now.given) self.now.logs }

@@ -23,7 +23,8 @@ pub trait Starter {
     /// A program that is to be started so may be lost: its logs can't be made, or it can't be waited for.
     ghost may_lose: { Self → Launched → Type 0 };
 
-    /// Makes the logs of a try, starts a program for it, with its variables added to the environment, and waits for its end.
+    /// Makes the logs of a try, starts a program for it, with the try's variables added to the environment, and waits
+    /// for its end. `GaveUp` where a log can't be made, or the program can't be waited for.
     fn start(
         &self,
         alloc: Global,
@@ -44,6 +45,8 @@ impl Starter for HostRuntime {
 
     ghost may_lose = { λ _ launched. Unit {0} };
 
+    /// Where a log can't be made, this is noted in the setting's `log_faults` and nothing is started: `GaveUp`.
+    /// Without logs the program has this process's standard error.
     fn start(
         &self,
         alloc: Global,

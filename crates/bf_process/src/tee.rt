@@ -12,7 +12,7 @@ pub(crate) struct Tee<R: Read + Drop, W: Write + Drop> {
 }
 
 impl<R: Read + Drop, W: Write + Drop> Tee<R, W> {
-    /// A device that passes on what another gives.
+    /// A device that gives what another gives, and writes it to a log.
     pub(crate) fn new(inner: R, log: W) -> Tee<R, W>
         ensures { R.left result.inner ≡ R.left inner }
     {
@@ -23,6 +23,7 @@ impl<R: Read + Drop, W: Write + Drop> Tee<R, W> {
         }
     }
 
+    /// Writes bytes to the log, unless a write to it has failed before; notes where this one fails. Nothing is read.
     fn log_bytes(&mut self, bytes: &[u8])
         ensures { self.new.inner ≡ self.old.inner }
     {
@@ -31,12 +32,12 @@ impl<R: Read + Drop, W: Write + Drop> Tee<R, W> {
         }
     }
 
-    /// Whether a write to the log has failed.
+    /// Whether a write to the log has failed. No clause says so.
     pub(crate) fn has_failed(&self) -> bool {
         self.failed
     }
 
-    /// Reads to the end of what is left, and keeps it.
+    /// Reads what is left, to the end or to a read that fails, and writes it to the log. No clause says so.
     pub(crate) fn drain(&mut self) {
         let mut room = [0; 8_192];
         for _ in 0..u64::MAX {
@@ -55,6 +56,7 @@ impl<R: Read + Drop, W: Write + Drop> Read for Tee<R, W> {
 
     ghost failures = { λ t. R.failures t.inner };
 
+    /// Reads from the device, and writes what it gave to the log, unless a write to the log has failed before.
     fn read(&mut self, room: &mut [u8]) -> Result<usize, Halt> {
         match self.inner.read(room) {
             Ok(count) => {

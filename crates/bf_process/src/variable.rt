@@ -48,7 +48,7 @@ static VARIABLES: [Variable; 13] = [
     Variable::AirflowTryNumber,
 ];
 
-/// All variables of a try's environment.
+/// All variables that a try's environment has, beside `BACKFILL_GIVEN`.
 pub(crate) fn variables() -> &'static [Variable]
     ensures { result.now ≡ variables_of }
 {
@@ -77,8 +77,8 @@ impl Variable {
         }
     }
 
-    /// Its value for a try, by what the clocks of the graph's zone show at the moment of its run. Moments are spelled as
-    /// `2024-02-14T00:00:00Z`.
+    /// Its value for a try; `clock` is what the clocks of the graph's zone show at the moment of the try's run, for
+    /// the date. Moments are spelled as `2024-02-14T00:00:00Z`.
     pub fn value(
         self,
         alloc: Global,

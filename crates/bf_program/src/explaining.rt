@@ -18,6 +18,7 @@ use bf_quoted::push_shown_value;
 use bf_value::OutOfMemory;
 use std::alloc::Global;
 
+/// Adds the line of a finding, with its line feed.
 fn push_finding(alloc: Global, text: &mut String, finding: &Finding) -> Result<(), OutOfMemory>
     ensures { OnOk result (string_bytes text.new ≡ string_bytes text.old
         ++ finding_line finding.now) }
@@ -28,7 +29,7 @@ fn push_finding(alloc: Global, text: &mut String, finding: &Finding) -> Result<(
     Ok(())
 }
 
-/// A line for each finding.
+/// The text of findings, a line for each; empty where there are none.
 fn text_of_findings(alloc: Global, found: &[Finding]) -> Result<String, OutOfMemory>
     ensures { IfOk result (λ text. string_bytes text ≡ findings_text found.now) }
 {
@@ -39,7 +40,8 @@ fn text_of_findings(alloc: Global, found: &[Finding]) -> Result<String, OutOfMem
     Ok(text)
 }
 
-/// What is wrong with a graph, a line for each finding.
+/// Reads the graph file, and the zone file where one is named, and gives what is wrong with the graph, a line for
+/// each finding. A fault where a file can't be read.
 fn read_explanation<S: Source>(
     alloc: Global,
     asked: GraphAsked,
@@ -54,7 +56,8 @@ fn read_explanation<S: Source>(
     Ok(text)
 }
 
-/// Tells on standard error what is wrong with a graph.
+/// Reads the graph's files, and writes to standard error what is wrong with the graph. A fault where a file can't be
+/// read.
 fn tell_findings<S: Source, E: Write>(
     alloc: Global,
     asked: GraphAsked,
@@ -72,6 +75,8 @@ fn tell_findings<S: Source, E: Write>(
     Ok(())
 }
 
+/// Reads the graph's files and writes to standard error what is wrong with the graph, where `check` asks for that;
+/// else does nothing.
 fn explain_asked_check<S: Source, E: Write>(
     alloc: Global,
     asked: CheckAsked,
@@ -92,6 +97,8 @@ fn explain_asked_check<S: Source, E: Write>(
     }
 }
 
+/// Reads the graph's files and writes to standard error what is wrong with the graph, where the command is `check
+/// --explain`; else does nothing.
 #[tactic(auto, using(crate::proofs::Unasked::unasked))]
 fn explain_command<S: Source, E: Write>(
     alloc: Global,
@@ -111,8 +118,9 @@ fn explain_command<S: Source, E: Write>(
     }
 }
 
-/// Tells on standard error what is wrong with a graph, where the line asks for that: all of it, or a hundred findings. Its files are read
-/// again for this. Nothing is told where one can't be read, where memory is wanting, and of a line that is wrong.
+/// Writes to standard error what is wrong with a graph, at most a hundred findings, where the command line is `check
+/// --explain`. Reads the graph's files again. Nothing is written for a wrong line, or where a file can't be read or
+/// memory is wanting.
 pub fn explain_check<S: Source, E: Write>(
     alloc: Global,
     words: &[String],

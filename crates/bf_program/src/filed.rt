@@ -20,7 +20,7 @@ use std::sync::Wait;
 use std::thread::Threads;
 use std::time::Clock;
 
-/// What is told where a path's file can't be replaced.
+/// The fault of a command where the file at this path can't be replaced.
 fn fault_of_replacing(fault: ReplaceFault, path: String) -> CommandFault
     ensures { result ≡ replacing_fault (string_bytes path) fault }
 {
@@ -30,7 +30,8 @@ fn fault_of_replacing(fault: ReplaceFault, path: String) -> CommandFault
     }
 }
 
-/// What is told where a command's text goes to a file, and a write to that failed for this reason, if one did.
+/// The fault of a command whose text was to replace the file at this path: where a write failed that of the file, for
+/// this reason, and else its own.
 fn fault_at_file(fault: CommandFault, reason: ReplaceFault, path: String) -> CommandFault
     ensures { result ≡ filed_fault (string_bytes path) reason fault }
 {
@@ -40,7 +41,8 @@ fn fault_at_file(fault: CommandFault, reason: ReplaceFault, path: String) -> Com
     }
 }
 
-/// Answers a command, whose text takes the place of a path's file. That this can be is looked at first, before anything is read.
+/// Does a command, whose text replaces the file at `path`, whole or not at all. Checks that the file can be replaced
+/// before anything is read.
 #[tactic(auto, using(crate::proofs::FiledReports::filing))]
 pub(crate) fn answer_to_file<RT, J: Journals + Launchers, S: Source, F: Folder>(
     rt: &RT,

@@ -21,8 +21,8 @@ use bf_answers::{reports_are_made_again, tables_are_read_back};
 use bf_cells::own_letters_have_no_digit;
 use bf_try::TaskRunner;
 
-/// Over the table that `answers` prints of the report of a backfill, whatever runner answered its tries, `dry` of the same graph and
-/// range prints that report, byte for byte.
+/// Over the table that `answers` prints of the report of a backfill, whatever runner answered its tries, `dry` of the
+/// same graph and range prints that report, byte for byte.
 pub fn reports_are_printed_again<R: TaskRunner>(runner: &R)
     ensures { (graph : List ℕ) (file : Option (List ℕ)) (range : RunRange) (draft : Draft)
         (found : List Interval)

@@ -34,10 +34,10 @@ use std::sync::Wait;
 use std::thread::Threads;
 use std::time::Clock;
 
-/// Answers a command line, of which the first word is the program's own name. Files are read from `files`, the
-/// report, the size of a graph, the intervals, a schema, completions or help goes to `out`, and why there is none to
-/// `err`. A grid is as wide as the line says and has colours by it, or else as the canvas has it. A report for which a file is named goes there instead, in `folder`. Gives the exit status: 0 where every run
-/// is a success, a graph has no fault, the intervals were listed, or a text was asked for, 1 where some run failed, 2
+/// Answers a command line, whose first word is the program's own name. Files are read from `files`; what was asked
+/// for goes to `out`, or a report for which a file is named to that file in `folder`, and why there is none to `err`.
+/// Width and colours of a grid are the line's, or else the canvas's. Gives the exit status: 0 where every run is a
+/// success, a graph has no fault, the intervals were listed, or a text was asked for, 1 where some run failed, 2
 /// where something was refused, and 3 at a fault.
 #[tactic(auto, using(crate::proofs::Ends::fault_ends))]
 pub fn answer<RT, J: Journals + Launchers, S: Source, F: Folder, W: Write, E: Write>(
@@ -99,6 +99,8 @@ where
     }
 }
 
+/// Answers a command line, whose first word is the program's own name: does its command, or writes `clap`'s help to
+/// `out` or its refusal to `err`. A fault is given, and not told yet.
 fn answer_line<RT, J: Journals + Launchers, S: Source, F: Folder, W: Write, E: Write>(
     rt: &RT,
     alloc: Global,
@@ -150,7 +152,8 @@ where
     }
 }
 
-/// Answers a command, whose text goes to `out`.
+/// Does a command with its files, threads and programs, and writes its text to `out`. A fault is given, and not told
+/// yet.
 pub(crate) fn answer_command<RT, J: Journals + Launchers, S: Source, W: Write>(
     rt: &RT,
     alloc: Global,
@@ -195,7 +198,8 @@ where
     }
 }
 
-/// Shows `clap`'s words: help on standard output, and what is wrong with the line on standard error.
+/// Writes `clap`'s words: help to standard output, with the status success, and what is wrong with the line to
+/// standard error, with the status refused. A fault where memory is wanting or the help can't be written.
 fn show_clap_error<W: Write, E: Write>(
     alloc: Global,
     error: &Error,
@@ -230,7 +234,8 @@ fn show_clap_error<W: Write, E: Write>(
     Ok(Status::Success)
 }
 
-/// Tells on standard error why there is no answer, and gives the exit status of what was told.
+/// Writes the line of a fault to standard error, and gives its exit status; line and status of want of memory where
+/// there is none for its own line.
 fn tell_fault<E: Write>(alloc: Global, fault: &CommandFault, err: &mut E) -> Status
     ensures tells { MayTell (HasHalted (E.failures err.old) (E.failures err.new)
         (E.interruptions err.old) (E.interruptions err.new))
@@ -250,7 +255,7 @@ fn tell_fault<E: Write>(alloc: Global, fault: &CommandFault, err: &mut E) -> Sta
     }
 }
 
-/// Writes a line to standard error. Where that fails, nothing is left to say so on.
+/// Writes a text to standard error. Where that fails, nothing is left to say so on.
 pub(crate) fn tell_line<E: Write>(err: &mut E, line: &[u8])
     ensures { IsTold (HasHalted (E.failures err.old) (E.failures err.new)
         (E.interruptions err.old) (E.interruptions err.new))

@@ -12,7 +12,7 @@ pub(crate) struct Begun {
     pub(crate) at: Duration,
 }
 
-/// A try has begun.
+/// Adds a try that has begun to those that run. Where memory is wanting, nothing changes.
 pub(crate) fn push_begun(running: &mut Vec<Begun>, begun: Begun) -> Result<(), OutOfMemory>
     ensures ok { OnOk result (running.new.items ≡ running.old.items ++ begun ∷ []) }
     ensures err { OnErr result (running.new.items ≡ running.old.items) }
@@ -22,7 +22,7 @@ pub(crate) fn push_begun(running: &mut Vec<Begun>, begun: Begun) -> Result<(), O
     Ok(())
 }
 
-/// A try has ended.
+/// Removes a try that has ended from those that run.
 pub(crate) fn remove_ended(running: &mut Vec<Begun>, name: JobName)
     ensures { running.new.items ≡ filter (is_other name) running.old.items }
 {

@@ -30,7 +30,7 @@ pub(crate) struct Board {
 }
 
 impl Board {
-    /// Before the first event of a backfill that begins now.
+    /// The board of a backfill that begins at `now`, before its first event.
     pub(crate) fn new(alloc: Global, counts: Counts, now: Duration) -> Board
         ensures running { result.running.items ≡ [] }
         ensures moments { (result.shown ≡ now) × (result.changed ≡ now) × (result.minutes ≡ 0) }
@@ -46,7 +46,8 @@ impl Board {
         }
     }
 
-    /// Notes which try runs, or runs no more. Where memory is wanting for one that begins, it isn't noted.
+    /// Notes a try that begins at `now` as running, and one that ends no more; nothing for other events. Where memory
+    /// is wanting for one that begins, it isn't noted.
     fn note_try(&mut self, event: &Event, now: Duration) -> Result<(), OutOfMemory>
         ensures ok { OnOk result (self.new.running.items
             ≡ running_after event.now now self.old.running.items) }
@@ -69,7 +70,8 @@ impl Board {
         }
     }
 
-    /// An event has come to the backfill, and so many tries run now. That its clock goes on is none that is told.
+    /// Notes that an event came to the backfill at `now`, and that `running` tries run then. Of a tick nothing is
+    /// noted.
     pub(crate) fn note_event(&mut self, event: &Event, core: &Core<'_>, running: u32, now: Duration)
         ensures running { IsRunningAfter event.now now self.old.running.items
             self.new.running.items }
@@ -86,22 +88,22 @@ impl Board {
         self.minutes = 0;
     }
 
-    /// Whether no event has come for a minute more than was told.
+    /// Whether by `now` more whole minutes have gone by without an event than the longest running try was told for.
     fn is_minute_over(&self, now: Duration) -> bool
         ensures { result ≡ is_minute_over_in self.now now }
     {
         self.minutes < seconds_between(self.changed, now) / MINUTE
     }
 
-    /// Whether the counts are to be shown: a second after they were, where they have changed, or where they are kept on a
-    /// terminal, on which other lines may have taken their place.
+    /// Whether the counts are to be shown at `now`: at least a whole second after they were, where an event has come
+    /// since, or a terminal keeps their line (`keeps_line`), whose place other lines may have taken.
     fn is_line_due(&self, now: Duration, keeps_line: bool) -> bool
         ensures { result ≡ is_line_due_in self.now now keeps_line }
     {
         (self.has_changed || keeps_line) && 0 < seconds_between(self.shown, now)
     }
 
-    /// What is to be told now.
+    /// What is to be told at `now`; `keeps_line` where a terminal keeps the line of the counts.
     pub(crate) fn due(&self, now: Duration, keeps_line: bool) -> Due
         ensures { result ≡ due_of self.now now keeps_line }
     {
@@ -112,7 +114,7 @@ impl Board {
         }
     }
 
-    /// Notes that what is due now is told.
+    /// Notes that this, which is due at `now`, is told.
     pub(crate) fn note_told(&mut self, due: Due, now: Duration)
         ensures { self.new ≡ shown_of self.old due now }
     {

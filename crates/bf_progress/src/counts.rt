@@ -8,7 +8,7 @@ use bf_value::{JobName, OutOfMemory};
 use std::alloc::Global;
 use std::fmt;
 
-/// How far a backfill is.
+/// How far a backfill is. No clause says what is counted.
 #[derive(Clone, Copy, Debug, Drop)]
 pub(crate) struct Counts {
     /// Of so many runs so many were opened, and so many of these closed.
@@ -42,7 +42,7 @@ impl fmt::Display for Counts {
 }
 
 impl Counts {
-    /// Before the first event of so many runs, each of so many tasks.
+    /// The counts before the first event, of so many runs with so many tasks each. No clause says so.
     pub(crate) fn new(runs: usize, tasks: usize) -> Counts {
         let (runs, tasks) = (runs as u64, tasks as u64);
         Counts {
@@ -57,7 +57,7 @@ impl Counts {
         }
     }
 
-    /// A task was decided.
+    /// Counts what the decision of a task in a run changes, as the core has it after that. No clause says so.
     fn note_decision(&mut self, core: &Core<'_>, run: u32, task: u32) {
         if let Some(Cell::Ran(instances)) = core.cell(run, task) {
             self.waiting = self.waiting.saturating_add(instances.len() as u64);
@@ -65,7 +65,7 @@ impl Counts {
         self.note_settled(core, run, task);
     }
 
-    /// A try has ended.
+    /// Counts what the end of a try changes, as the core has it after the end. No clause says so.
     fn note_end(&mut self, core: &Core<'_>, name: JobName) {
         match core.instance(name) {
             Some(instance) => match instance.phase {
@@ -78,14 +78,14 @@ impl Counts {
         self.note_settled(core, name.run, name.task);
     }
 
-    /// Counts a task that an event has settled.
+    /// Counts a task that is settled in a run, once the event that settled it has come. No clause says so.
     fn note_settled(&mut self, core: &Core<'_>, run: u32, task: u32) {
         if core.is_settled(run, task) {
             self.settled = self.settled.saturating_add(1);
         }
     }
 
-    /// An event has come to the backfill.
+    /// Counts what an event changes that has come to the core already. No clause says so.
     pub(crate) fn note_event(&mut self, event: &Event, core: &Core<'_>) {
         match event {
             Event::Open => self.opened = self.opened.saturating_add(1),
@@ -100,14 +100,15 @@ impl Counts {
     }
 }
 
-/// The line of the counts.
+/// The line that says the counts, with its line feed.
 pub(crate) fn line_of_counts(alloc: Global, counts: &Counts) -> Result<String, OutOfMemory>
     ensures { IfOk result (λ line. string_bytes line ≡ counts_line counts.now) }
 {
     Ok(format!(in alloc; "{counts}\n")?)
 }
 
-/// The line of the counts that a terminal keeps. Nothing asks how wide it is: it cuts the line itself.
+/// The line of the counts that a terminal keeps, without a line feed. Escape sequences round it let the terminal cut
+/// it at its own width.
 pub(crate) fn terminal_line_of_counts(alloc: Global, counts: &Counts) -> Result<String, OutOfMemory>
     ensures { IfOk result (λ line. string_bytes line ≡ kept_line counts.now) }
 {

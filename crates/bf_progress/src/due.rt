@@ -15,7 +15,7 @@ pub(crate) enum Due {
     Longest(Begun),
 }
 
-/// The whole seconds from one moment to another, and none where that lies before it.
+/// The whole seconds from one moment to another; 0 where the other is earlier.
 pub(crate) fn seconds_between(from: Duration, to: Duration) -> u64
     ensures { result ≡ seconds_between_of from to }
 {

@@ -20,7 +20,7 @@ use std::time::{Clock, Duration};
 /// The time between two looks at what is to be told, in seconds.
 const PAUSE: u64 = 1;
 
-/// How far a backfill is, as its thread notes it and another tells it.
+/// How far a backfill is, as its thread notes it and another tells it. No clause says what is noted or told.
 #[derive(Drop)]
 pub struct Progress<'a, RT> {
     rt: &'a RT,
@@ -34,7 +34,8 @@ pub struct Progress<'a, RT> {
 }
 
 impl<'a, RT: Screen + Wait + Clock> Progress<'a, RT> {
-    /// Before the first event of these runs of a plan.
+    /// The progress of a backfill of a plan over these runs, before its first event, which begins now by the
+    /// monotonic clock, at zero where that doesn't answer. No clause says so.
     pub fn new(rt: &'a RT, alloc: Global, plan: &'a Plan, runs: &'a Runs) -> Progress<'a, RT> {
         let counts = Counts::new(runs.count(), plan.dag().tasks.len());
         let now = rt.monotonic().unwrap_or(Duration::ZERO);
@@ -49,7 +50,8 @@ impl<'a, RT: Screen + Wait + Clock> Progress<'a, RT> {
         }
     }
 
-    /// The present moment of the monotonic clock.
+    /// The present moment of the runtime's monotonic clock, by which seconds and minutes are counted; zero where the
+    /// clock doesn't answer. No clause says so.
     fn now(&self) -> Duration {
         self.rt.monotonic().unwrap_or(Duration::ZERO)
     }
@@ -72,14 +74,14 @@ impl<'a, RT: Screen + Wait + Clock> Progress<'a, RT> {
         }
     }
 
-    /// The backfill has ended, or was stopped: nothing more is due.
+    /// Says to the thread that tells that nothing more is due: the backfill has ended, or was stopped.
     pub fn stop_telling(&self) {
         self.has_ended.store(true, Ordering::SeqCst);
         self.bell.unpark();
     }
 
-    /// Shows a last time how far the backfill is, on a line of its own. No try runs any more: where it was stopped, the
-    /// ends of the last ones were noted by nobody.
+    /// Shows a last time how far the backfill is, on a line of its own, with no try running: where the backfill was
+    /// stopped, the ends of its last tries were noted by nobody.
     pub fn show_last(&self) {
         let counts = Counts {
             running: 0,
@@ -88,12 +90,14 @@ impl<'a, RT: Screen + Wait + Clock> Progress<'a, RT> {
         self.show(line_of_counts(self.alloc, &counts));
     }
 
+    /// The counts as they are now. Waits for the lock of the board.
     fn counts(&self) -> Counts {
         let board = self.board.lock(self.rt);
         board.counts
     }
 
-    /// What is due at this moment, which is noted as told, and how far the backfill is.
+    /// What is due at `now`, which is noted as told, and how far the backfill is. `keeps_line` where a terminal keeps
+    /// the line of the counts.
     fn take_due(&self, now: Duration, keeps_line: bool) -> (Due, Counts) {
         let mut board = self.board.lock(self.rt);
         let due = board.due(now, keeps_line);
@@ -122,7 +126,8 @@ impl<'a, RT: Screen + Wait + Clock> Progress<'a, RT> {
         }
     }
 
-    /// Tells for how long a try has run. One of a task or a run that isn't there has no line.
+    /// Tells for how long the try that runs longest, `begun`, has run at `now`; nothing where its task or run isn't
+    /// there.
     fn tell_longest(&self, begun: &Begun, now: Duration) {
         let Some(context) = context_of(self.plan, self.runs, begun.name) else {
             return;

@@ -9,7 +9,7 @@ use std::io::IsTerminal;
 
 /// Shows how far a backfill is, beside what it prints.
 pub trait Screen {
-    /// Whether a line can be written over.
+    /// Whether it is a terminal, on which a line can be written over.
     fn is_terminal(&self) -> bool;
 
     /// Shows a text by one write. Where that fails, nothing is left to say so on.
@@ -18,16 +18,19 @@ pub trait Screen {
 
 /// Standard error.
 impl Screen for HostRuntime {
+    /// Whether standard error is a terminal.
     fn is_terminal(&self) -> bool {
         self.stderr().is_terminal()
     }
 
+    /// Writes the text to standard error by one write. That it fails is told nowhere.
     fn show(&self, text: &str) {
         let _ = send(&mut Output::new(self.stderr()), text.as_bytes());
     }
 }
 
-/// What shows a line: on a terminal first what takes away the line of progress that may stand there.
+/// The text that shows a line as it is given: on a terminal behind the escape sequence that clears the line of
+/// progress which may be there.
 fn line_on(alloc: Global, is_terminal: bool, line: &str) -> Result<String, OutOfMemory>
     ensures { IfOk result (λ text. string_bytes text ≡ line_at is_terminal line.now) }
 {
@@ -38,8 +41,8 @@ fn line_on(alloc: Global, is_terminal: bool, line: &str) -> Result<String, OutOf
     }
 }
 
-/// Tells a line by one write, on a terminal in the place of the line of progress that may stand there. Where memory is wanting for
-/// it, nothing is told.
+/// Tells a line, as it is given, by one write, on a terminal in the place of the line of progress that may be there.
+/// Where memory is wanting for it, nothing is told.
 pub fn tell_line<RT: Screen>(rt: &RT, alloc: Global, line: &str) {
     if let Ok(text) = line_on(alloc, rt.is_terminal(), line) {
         rt.show(text.as_str());

@@ -8,23 +8,23 @@ ghost use Rattle.bf_quoted.specs.Shell.{read_by_shell, bare};
 ghost use Rattle.bf_quoted.specs.Values.{shown};
 ghost use Rattle.bf_quoted.specs.Words.{quoted};
 
-/// A shell reads the word that was quoted, and is behind its end.
+/// A law: a shell reads a quoted word as the word, and is behind its end then.
 pub fn a_shell_reads_the_word()
     ensures { (word : List ℕ) → IsUtf8 word → read_by_shell (quoted word) ≡ bare word }
 {}
 
-/// A shell reads the words of a line, in their order and no other.
+/// A law: a shell reads the words of a line, in their order and no other.
 pub fn a_shell_reads_the_words_of_a_line()
     ensures { (words : List (List ℕ)) → All IsUtf8 words
         → words_by_shell (line_of words) ≡ Some words }
 {}
 
-/// A terminal shows each character of a quoted word as itself.
+/// A law: a terminal shows each character of a quoted word as itself.
 pub fn all_of_a_word_is_seen()
     ensures { (word : List ℕ) → NoCharPasses is_unseen_in (quoted word) }
 {}
 
-/// A terminal shows each character of a value as itself.
+/// A law: a terminal shows each character of a shown value as itself.
 pub fn all_of_a_value_is_seen()
     ensures { (json : List ℕ) → NoCharPasses is_unseen_in (shown json) }
 {}

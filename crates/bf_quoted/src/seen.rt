@@ -5,6 +5,7 @@ ghost use Rattle.std.specs.List.{list_any};
 ghost use Rattle.std.specs.Str.{chars};
 ghost use Rattle.bf_quoted.specs.Seen.{is_unseen_in};
 
+/// Whether a character is in a range, both ends included.
 fn is_within(c: char, first: char, last: char) -> bool
     ensures { result ≡ is_in_range first last c }
 {
@@ -25,7 +26,7 @@ pub(crate) fn is_unseen(c: char) -> bool
         || is_within(c, '\u{fff9}', '\u{fffb}')
 }
 
-/// Whether the text has such a character.
+/// Whether a terminal doesn't show some character of the text as itself.
 pub(crate) fn has_unseen(text: &str) -> bool
     ensures { result ≡ list_any is_unseen_in (chars text.now) }
 {

@@ -5,13 +5,13 @@ use Rattle.bf_read.specs.declared.fault.ReadFault.{ReadFault}
 use Rattle.bf_read.specs.declared.fault.ReadFault.TheVariants.{NotJson, Shape, BadName, DuplicateTask, LimitPassed, OutOfMemory}
 
 -- want of memory has no number
-abbrev pub fault_number : ReadFault → Option ℕ
-fault_number NotJson = Some 1
-fault_number (Shape path) = Some 2
-fault_number (BadName path) = Some 3
-fault_number (DuplicateTask task) = Some 4
-fault_number (LimitPassed path) = Some 5
-fault_number OutOfMemory = None
+abbrev pub refusal_number_of : ReadFault → Option ℕ
+refusal_number_of NotJson = Some 1
+refusal_number_of (Shape path) = Some 2
+refusal_number_of (BadName path) = Some 3
+refusal_number_of (DuplicateTask task) = Some 4
+refusal_number_of (LimitPassed path) = Some 5
+refusal_number_of OutOfMemory = None
 
 -- the words
 abbrev pub fault_text : ReadFault → List ℕ

@@ -19,6 +19,7 @@ use bf_value::{OutOfMemory, Sequence, Text};
 use serde_json::{Map, Value};
 use std::alloc::Global;
 
+/// The key and the value of an object with just one member; None for any other.
 fn only_entry_of<'a>(members: &'a Map<String, Value>) -> Option<(&'a str, &'a Value)>
     ensures { option_map (λ m. (m.0.now, view m.1.now)) result
         ≡ only_entry_in (members_view members.entry.now.entries) }
@@ -32,8 +33,8 @@ fn only_entry_of<'a>(members: &'a Map<String, Value>) -> Option<(&'a str, &'a Va
     Some((key.as_str(), value))
 }
 
-/// The member of an object with exactly one key.
-#[tactic(auto, unfolding(crate::specs::Commands::only_member))]
+/// The key and the value of an object with exactly one key; the fault `Shape` at `path` for any other value.
+#[tactic(auto, unfolding(crate::specs::Commands::only_member_in))]
 fn only_member<'a>(path: Path, value: &'a Value) -> Result<(&'a str, &'a Value), ReadFault>
     ensures { Gives (λ m. (m.0.now, view m.1.now)) result
         (only_member_in path (view value.entry.now)) }
@@ -44,7 +45,9 @@ fn only_member<'a>(path: Path, value: &'a Value) -> Result<(&'a str, &'a Value),
         .ok_or(ReadFault::Shape(path))
 }
 
-#[tactic(auto, unfolding(crate::specs::Commands::context_word))]
+/// The word that stands for the context variable of the name in `field`; a fault where no text or no variable is
+/// there.
+#[tactic(auto, unfolding(crate::specs::Commands::context_word_of))]
 fn context_word(field: Field) -> Result<WordDraft, ReadFault>
     ensures { Gives (λ w. w) result (context_word_of (member_of field.entry)) }
 {
@@ -55,7 +58,9 @@ fn context_word(field: Field) -> Result<WordDraft, ReadFault>
     }
 }
 
-#[tactic(auto, unfolding(crate::specs::Commands::pull_word))]
+/// The word that stands for what the task of the id in `field` pushed; a fault where no text is there. The id needn't
+/// be that of a task.
+#[tactic(auto, unfolding(crate::specs::Commands::pull_word_of))]
 fn pull_word(alloc: Global, field: Field) -> Result<WordDraft, ReadFault>
     ensures { Gives (λ w. w) result (pull_word_of (member_of field.entry)) }
 {
@@ -63,7 +68,8 @@ fn pull_word(alloc: Global, field: Field) -> Result<WordDraft, ReadFault>
     Ok(WordDraft::Pull(Text::copy_of(alloc, id)?))
 }
 
-#[tactic(auto, unfolding(crate::specs::Commands::item_word))]
+/// The word that stands for the item of an instance; a fault where `field` isn't `true` or the task isn't expanded.
+#[tactic(auto, unfolding(crate::specs::Commands::item_word_of))]
 fn item_word(is_expanded: bool, field: Field) -> Result<WordDraft, ReadFault>
     ensures { Gives (λ w. w) result (item_word_of is_expanded (member_of field.entry)) }
 {
@@ -74,8 +80,9 @@ fn item_word(is_expanded: bool, field: Field) -> Result<WordDraft, ReadFault>
     Ok(WordDraft::Item)
 }
 
-/// The word of an object whose one member is this.
-#[tactic(auto, unfolding(crate::specs::Commands::keyed_word))]
+/// The word that an object with only the member `field` stands for, by its key; a fault for an unknown key, a value
+/// that the key can't have, and an item where the task isn't expanded.
+#[tactic(auto, unfolding(crate::specs::Commands::keyed_word_of))]
 fn word_with_key(
     alloc: Global,
     is_expanded: bool,
@@ -92,7 +99,9 @@ fn word_with_key(
     }
 }
 
-#[tactic(auto, unfolding(crate::specs::Commands::word_at))]
+/// A word of a command: a text, or an object with just one key; any other value is a fault at `path`, and so is an
+/// item where the task isn't expanded.
+#[tactic(auto, unfolding(crate::specs::Commands::word_in))]
 fn word_at(
     alloc: Global,
     is_expanded: bool,
@@ -108,6 +117,8 @@ fn word_at(
     word_with_key(alloc, is_expanded, key, field_with_value(path, value))
 }
 
+/// The words of a command, in order, or the fault at `path` of the first bad one, as an item where the task isn't
+/// expanded.
 fn words_in(
     alloc: Global,
     is_expanded: bool,
@@ -123,6 +134,7 @@ fn words_in(
     Ok(words)
 }
 
+/// Whether a word's text, or the id that it pulls, has at most `LONGEST_WORD` bytes.
 fn is_short_word(word: &WordDraft) -> bool
     ensures { result ≡ is_short_word_in word.now }
 {
@@ -133,12 +145,14 @@ fn is_short_word(word: &WordDraft) -> bool
     }
 }
 
+/// Whether each word's text, or the id that it pulls, has at most `LONGEST_WORD` bytes.
 fn are_short_words(words: &[WordDraft]) -> bool
     ensures { result ≡ list_all is_short_word_in words.now }
 {
     words.iter().all(|word| is_short_word(word))
 }
 
+/// The id of the task that a word pulls from; None where it is no pull.
 fn pulled_id<'a>(word: &'a WordDraft) -> Option<&'a str>
     ensures { option_map (λ s. s.now) result ≡ pulled_by word.entry.now }
 {
@@ -148,7 +162,7 @@ fn pulled_id<'a>(word: &'a WordDraft) -> Option<&'a str>
     }
 }
 
-/// The ids that the words pull from, repeats too.
+/// The ids of the tasks that the words pull from, in order and with repeats.
 fn pulled_ids<'a>(alloc: Global, words: &'a [WordDraft]) -> Result<Vec<&'a str>, OutOfMemory>
     ensures { IfOk result (λ v. map (λ s. s.now) v.items ≡ filter_map pulled_by words.entry.now) }
 {
@@ -169,9 +183,9 @@ pub fn pulls_of(alloc: Global, words: &[WordDraft]) -> Result<Vec<Text>, OutOfMe
     distinct_texts(alloc, ids.as_slice())
 }
 
-/// The command of a task, without words where the key is missing. Its limits are looked at once each word
-/// has its shape.
-#[tactic(auto, unfolding(crate::specs::Commands::command_at))]
+/// The command of a task, without words where the key is missing. A fault where a word is bad, as an item where the
+/// task isn't expanded, and then where words, their bytes or the tasks that they pull from are too many.
+#[tactic(auto, unfolding(crate::specs::Commands::command_in))]
 pub(crate) fn command_at(
     alloc: Global,
     is_expanded: bool,

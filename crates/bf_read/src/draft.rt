@@ -63,7 +63,7 @@ pub struct Draft {
     pub ghost within_limits: { IsDraft dag_id max_active_runs pools tasks },
 }
 
-/// How many upstreams the tasks have.
+/// How many distinct edges these tasks have: each task's upstreams are distinct.
 pub(crate) fn edge_count(tasks: &[TaskDraft]) -> usize
     requires { number_of_edges tasks.now ≤ most_edges }
     ensures { result ≡ number_of_edges tasks.now }

@@ -1,6 +1,6 @@
 //! Why a graph file is refused.
 ghost use Rattle.std.specs.Prelude.{◌≡◌};
-ghost use Rattle.bf_read.specs.Faults.{fault_number};
+ghost use Rattle.bf_read.specs.Faults.{refusal_number_of};
 
 use crate::path::Path;
 use bf_value::{OutOfMemory, Text};
@@ -25,9 +25,9 @@ pub enum ReadFault {
 }
 
 impl ReadFault {
-    /// The number of the refusal, which want of memory doesn't have.
+    /// The number of the refusal (docs/FORMATS.md), 1 to 5; None for want of memory.
     pub fn refusal_number(&self) -> Option<u32>
-        ensures { result ≡ fault_number self.now }
+        ensures { result ≡ refusal_number_of self.now }
     {
         match self {
             ReadFault::NotJson => Some(1),

@@ -30,7 +30,7 @@ pub(crate) struct Field<'a> {
     pub(crate) value: Option<&'a Value>,
 }
 
-/// A value that is there.
+/// The field at a path with a value.
 pub(crate) fn field_with_value<'a>(path: Path, value: &'a Value) -> Field<'a>
     ensures { member_of result ≡ field_with_value_in path (view value.entry.now) }
 {
@@ -54,9 +54,9 @@ pub(crate) struct TaskObject<'a> {
 }
 
 impl<'a> GraphObject<'a> {
-    /// The member at a key.
+    /// The field at a key of a graph's object, whether it is there or missing.
     pub(crate) fn member_at(self, key: GraphKey) -> Field<'a>
-        ensures { member_of result ≡ graph_member (view self.entry.value.now) is_key_in }
+        ensures { member_of result ≡ graph_member (view self.entry.value.now) key }
     {
         Field {
             path: Path::Key(key),
@@ -66,10 +66,10 @@ impl<'a> GraphObject<'a> {
 }
 
 impl<'a> TaskObject<'a> {
-    /// The member at a key.
+    /// The field at a key of a task's object, whether it is there or missing.
     pub(crate) fn member_at(self, key: TaskKey) -> Field<'a>
         ensures { member_of result
-            ≡ task_member self.entry.n (view self.entry.value.now) is_key_in }
+            ≡ task_member self.entry.n (view self.entry.value.now) key }
     {
         Field {
             path: Path::TaskKey(self.n, key),
@@ -78,6 +78,7 @@ impl<'a> TaskObject<'a> {
     }
 }
 
+/// Whether an object of this kind may have the key.
 fn is_key(kind: ObjectKind, name: &str) -> bool
     ensures { result ≡ is_key_in kind name.now }
 {
@@ -87,20 +88,22 @@ fn is_key(kind: ObjectKind, name: &str) -> bool
     }
 }
 
+/// Whether an object of this kind may have all these keys.
 fn are_keys(kind: ObjectKind, members: &Map<String, Value>) -> bool
     ensures { result ≡ list_all (λ name. is_key_in kind (string_bytes name)) (keys members.now) }
 {
     members.keys().all(|name| is_key(kind, name.as_str()))
 }
 
+/// Whether each key of an object is one that its kind has.
 fn has_known_keys(kind: ObjectKind, members: &Map<String, Value>) -> bool
     ensures { result ≡ has_known_keys_in kind (members_view members.now.entries) }
 {
     are_keys(kind, members)
 }
 
-/// Refuses what is no object, and an object with an unknown key.
-#[tactic(auto, unfolding(crate::specs::Fields::object_at))]
+/// The fault `Shape` at `path` for a value that is no object, or has a key that objects of this kind don't have.
+#[tactic(auto, unfolding(crate::specs::Fields::refuse_other_object_in))]
 pub(crate) fn refuse_other_object(
     kind: ObjectKind,
     path: Path,
@@ -114,8 +117,8 @@ pub(crate) fn refuse_other_object(
     }
 }
 
-/// The text of a value that has to be there.
-#[tactic(auto, unfolding(crate::specs::Fields::text_at))]
+/// The text of a field; the fault `Shape` where it is missing or no text.
+#[tactic(auto, unfolding(crate::specs::Fields::text_of))]
 pub(crate) fn text_at<'a>(field: Field<'a>) -> Result<&'a str, ReadFault>
     ensures { Gives (λ s. s.now) result (text_of (member_of field.entry)) }
 {
@@ -125,8 +128,8 @@ pub(crate) fn text_at<'a>(field: Field<'a>) -> Result<&'a str, ReadFault>
         .ok_or(ReadFault::Shape(field.path))
 }
 
-/// A text, or what stands for a missing one.
-#[tactic(auto, unfolding(crate::specs::Fields::text_or))]
+/// The text of a field, or `default` where it is missing; the fault `Shape` where it is no text.
+#[tactic(auto, unfolding(crate::specs::Fields::text_or_in))]
 pub(crate) fn text_or(alloc: Global, default: &str, field: Field) -> Result<Text, ReadFault>
     ensures { Gives (λ s. s) result (text_or_in default.now (member_of field.entry)) }
 {
@@ -136,8 +139,9 @@ pub(crate) fn text_or(alloc: Global, default: &str, field: Field) -> Result<Text
     Ok(Text::copy_of(alloc, text_at(field)?)?)
 }
 
-/// The source of the items of a task, if it has one.
-#[tactic(auto, unfolding(crate::specs::Fields::expand_at))]
+/// The id of the task over whose items a task is expanded; None where the field is missing, a fault where it is no
+/// text.
+#[tactic(auto, unfolding(crate::specs::Fields::expansion_source_in))]
 pub(crate) fn expansion_source_at(alloc: Global, field: Field) -> Result<Option<Text>, ReadFault>
     ensures { Gives (λ s. s) result (expansion_source_in (member_of field.entry)) }
 {
@@ -147,8 +151,8 @@ pub(crate) fn expansion_source_at(alloc: Global, field: Field) -> Result<Option<
     Ok(Some(Text::copy_of(alloc, text_at(field)?)?))
 }
 
-/// A text that has to be an id.
-#[tactic(auto, unfolding(crate::specs::Fields::named_at))]
+/// The text as an id; the fault `BadName` at `path` where it can't be one.
+#[tactic(auto, unfolding(crate::specs::Fields::id_of_text_in))]
 pub(crate) fn id_of_text(alloc: Global, path: Path, text: &str) -> Result<Text, ReadFault>
     ensures exact { Gives (λ s. s) result (id_of_text_in path text.now) }
     ensures same { IfOk result (λ s. s ≡ text.now) }
@@ -160,8 +164,8 @@ pub(crate) fn id_of_text(alloc: Global, path: Path, text: &str) -> Result<Text, 
     Ok(Text::copy_of(alloc, text)?)
 }
 
-/// An id that has to be there.
-#[tactic(auto, unfolding(crate::specs::Fields::id_at))]
+/// The id of a field; the fault `Shape` where it is missing or no text, `BadName` where it is no id.
+#[tactic(auto, unfolding(crate::specs::Fields::id_in))]
 pub(crate) fn id_at(alloc: Global, field: Field) -> Result<Text, ReadFault>
     ensures exact { Gives (λ s. s) result (id_in (member_of field.entry)) }
     ensures id { IfOk result (λ s. is_id_in s ≡ true) }
@@ -170,8 +174,8 @@ pub(crate) fn id_at(alloc: Global, field: Field) -> Result<Text, ReadFault>
     id_of_text(alloc, field.path, text)
 }
 
-/// A truth value, which is false where it is missing.
-#[tactic(auto, unfolding(crate::specs::Fields::flag_at))]
+/// The truth value of a field, false where it is missing; the fault `Shape` where it is none.
+#[tactic(auto, unfolding(crate::specs::Fields::flag_in))]
 pub(crate) fn flag_at(field: Field) -> Result<bool, ReadFault>
     ensures { Gives (λ b. b) result (flag_in (member_of field.entry)) }
 {
@@ -181,8 +185,8 @@ pub(crate) fn flag_at(field: Field) -> Result<bool, ReadFault>
     }
 }
 
-/// A whole number that has to be there.
-#[tactic(auto, unfolding(crate::specs::Fields::whole_at))]
+/// The whole number of a field; the fault `Shape` where it is missing, or no number of 64 bits.
+#[tactic(auto, unfolding(crate::specs::Fields::whole_number_in))]
 pub(crate) fn whole_number_at(field: Field) -> Result<i64, ReadFault>
     ensures { Gives (λ z. z) result (whole_number_in (member_of field.entry)) }
 {
@@ -192,8 +196,8 @@ pub(crate) fn whole_number_at(field: Field) -> Result<i64, ReadFault>
         .ok_or(ReadFault::Shape(field.path))
 }
 
-/// Refuses a whole number that isn't between these two.
-#[tactic(auto, unfolding(crate::specs::Fields::within))]
+/// A whole number from `least` to `most`, both included; the fault `LimitPassed` at `path` for any other.
+#[tactic(auto, unfolding(crate::specs::Fields::number_within_of))]
 pub(crate) fn number_within(
     path: Path,
     least: u32,
@@ -210,8 +214,9 @@ pub(crate) fn number_within(
     Ok(number as u32)
 }
 
-/// A whole number between two others, or what stands for a missing one.
-#[tactic(auto, unfolding(crate::specs::Fields::count_at))]
+/// The whole number of a field, from `least` to `most`, both included, or `default` where it is missing; a fault
+/// where it is no whole number, or out of these bounds.
+#[tactic(auto, unfolding(crate::specs::Fields::count_in))]
 pub(crate) fn count_at(default: u32, least: u32, most: u32, field: Field) -> Result<u32, ReadFault>
     ensures exact { Gives (λ n. n) result (count_in default least most (member_of field.entry)) }
     ensures least { least ≤ default → IfOk result (λ n. least ≤ n) }
@@ -224,8 +229,8 @@ pub(crate) fn count_at(default: u32, least: u32, most: u32, field: Field) -> Res
     number_within(field.path, least, most, number)
 }
 
-/// Refuses what passes a limit.
-#[tactic(auto, unfolding(crate::specs::Fields::limit))]
+/// The fault `LimitPassed` at `path` unless `holds`, which tells whether a limit is kept.
+#[tactic(auto, unfolding(crate::specs::Fields::refuse_beyond_limit_of))]
 pub(crate) fn refuse_beyond_limit(path: Path, holds: bool) -> Result<(), ReadFault>
     ensures exact { Gives (λ u. u) result (refuse_beyond_limit_of path holds) }
     ensures holds { OnOk result (holds ≡ true) }
@@ -236,8 +241,8 @@ pub(crate) fn refuse_beyond_limit(path: Path, holds: bool) -> Result<(), ReadFau
     Ok(())
 }
 
-/// The list of a value that has to be there.
-#[tactic(auto, unfolding(crate::specs::Fields::items_at))]
+/// The items of a field that is a list; the fault `Shape` where it is missing or no list.
+#[tactic(auto, unfolding(crate::specs::Fields::items_in))]
 pub(crate) fn items_at<'a>(field: Field<'a>) -> Result<&'a [Value], ReadFault>
     ensures { Gives (λ items. items_view items.now) result (items_in (member_of field.entry)) }
 {
@@ -248,8 +253,8 @@ pub(crate) fn items_at<'a>(field: Field<'a>) -> Result<&'a [Value], ReadFault>
         .ok_or(ReadFault::Shape(field.path))
 }
 
-/// The members of a value that has to be there.
-#[tactic(auto, unfolding(crate::specs::Fields::members_at))]
+/// The members of a field that is an object; the fault `Shape` where it is missing or no object.
+#[tactic(auto, unfolding(crate::specs::Fields::members_in))]
 pub(crate) fn members_at<'a>(field: Field<'a>) -> Result<&'a Map<String, Value>, ReadFault>
     ensures { Gives (λ ms. members_view ms.now.entries) result
         (members_in (member_of field.entry)) }

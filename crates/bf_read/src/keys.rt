@@ -95,12 +95,14 @@ impl TaskKey {
     }
 }
 
+/// Whether a graph file's object may have this key.
 pub(crate) fn is_graph_key(name: &str) -> bool
     ensures { result ≡ is_graph_key_in name.now }
 {
     GRAPH_KEYS.iter().any(|key| name == key.name())
 }
 
+/// Whether a task's object may have this key.
 pub(crate) fn is_task_key(name: &str) -> bool
     ensures { result ≡ is_task_key_in name.now }
 {

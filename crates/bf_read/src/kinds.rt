@@ -7,8 +7,8 @@ use crate::fault::ReadFault;
 use crate::fields::{Field, text_at};
 use bf_plan::{TaskKind, WeightRule};
 
-/// A program where it is missing.
-#[tactic(auto, unfolding(crate::specs::Fields::kind_at))]
+/// The kind of a task, a program where the key is missing; a fault where the value is no kind's name.
+#[tactic(auto, unfolding(crate::specs::Fields::kind_in))]
 pub(crate) fn kind_at(field: Field) -> Result<TaskKind, ReadFault>
     ensures { Gives (λ k. k) result (kind_in (member_of field.entry)) }
 {
@@ -19,8 +19,8 @@ pub(crate) fn kind_at(field: Field) -> Result<TaskKind, ReadFault>
     TaskKind::named(name).ok_or(ReadFault::Shape(field.path))
 }
 
-/// That of downstreams where it is missing.
-#[tactic(auto, unfolding(crate::specs::Fields::weight_rule_at))]
+/// The weight rule of a task, `downstream` where the key is missing; a fault where the value is no rule's name.
+#[tactic(auto, unfolding(crate::specs::Fields::weight_rule_in))]
 pub(crate) fn weight_rule_at(field: Field) -> Result<WeightRule, ReadFault>
     ensures { Gives (λ r. r) result (weight_rule_in (member_of field.entry)) }
 {

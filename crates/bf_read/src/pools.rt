@@ -17,7 +17,9 @@ use bf_value::Sequence;
 use serde_json::{Map, Value};
 use std::alloc::Global;
 
-#[tactic(auto, unfolding(crate::specs::Fields::pool_at))]
+/// The pool that a member of `pools` says: its name, and its slots, from 1 to `MOST_SLOTS`. A fault at `path` where
+/// the value is no such number, or the name no id.
+#[tactic(auto, unfolding(crate::specs::Fields::pool_in))]
 fn pool_at(alloc: Global, path: Path, name: &str, value: &Value) -> Result<PoolDraft, ReadFault>
     ensures exact { Gives (λ p. p) result (pool_in path name.now (view value.now)) }
     ensures named { IfOk result (λ p. p.name ≡ name.now) }
@@ -29,7 +31,7 @@ fn pool_at(alloc: Global, path: Path, name: &str, value: &Value) -> Result<PoolD
     Ok(PoolDraft { name, slots })
 }
 
-/// The pools by name: a map's keys stand in byte order.
+/// The pools by name, in byte order, or the fault at `path` of the first bad one.
 fn pools_in(
     alloc: Global,
     path: Path,
@@ -47,8 +49,9 @@ fn pools_in(
     Ok(pools)
 }
 
-/// The pools that a file names, of which there are none where the key is missing.
-#[tactic(auto, unfolding(crate::specs::Fields::pools_at))]
+/// The pools that a file names, by name, none where the key is missing; a fault where it is no object, or a pool is
+/// bad.
+#[tactic(auto, unfolding(crate::specs::Fields::pools_in))]
 pub(crate) fn pools_at(alloc: Global, field: Field) -> Result<Sequence<PoolDraft>, ReadFault>
     ensures exact { Gives (λ ps. ps) result (pools_in (member_of field.entry)) }
     ensures pools { IfOk result (λ ps. All IsPool ps) }

@@ -20,7 +20,9 @@ use bf_value::Text;
 use serde_json::Value;
 use std::alloc::Global;
 
-#[tactic(auto, unfolding(crate::specs::Reading::draft_at))]
+/// The draft of a graph, read from the object of its file, or the fault of the first bad key, in the order of
+/// `GraphKey`.
+#[tactic(auto, unfolding(crate::specs::Reading::draft_of_entry))]
 fn draft_of_object(alloc: Global, graph: GraphObject) -> Result<Draft, ReadFault>
     ensures { Gives graph_file_of result
         (draft_of_entry (graph_member (view graph.entry.value.now))) }
@@ -43,8 +45,9 @@ fn draft_of_object(alloc: Global, graph: GraphObject) -> Result<Draft, ReadFault
     })
 }
 
-/// The draft of a JSON value, or the first fault.
-#[tactic(auto, unfolding(crate::specs::Reading::draft_of))]
+/// The draft of a JSON value, or its first fault: that it is no object, or has an unknown key, comes before the
+/// faults of known keys.
+#[tactic(auto, unfolding(crate::specs::Reading::draft_in))]
 fn draft_of(alloc: Global, value: &Value) -> Result<Draft, ReadFault>
     ensures { Gives graph_file_of result (draft_in (view value.now)) }
 {

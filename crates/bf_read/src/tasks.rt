@@ -61,14 +61,15 @@ struct TaskDemand {
     weight_rule: WeightRule,
 }
 
+/// Whether one of the `tasks` has this id.
 fn has_task_with_id(tasks: &[TaskDraft], id: &str) -> bool
     ensures { result ≡ list_any (λ task. bytes_eq id.now task.id) tasks.now }
 {
     tasks.iter().any(|task| id == task.id.as_str())
 }
 
-/// Refuses an id that a task before has.
-#[tactic(auto, unfolding(crate::specs::Reading::fresh))]
+/// The id itself; the fault `DuplicateTask` where one of `tasks`, those before in the file, has it.
+#[tactic(auto, unfolding(crate::specs::Reading::refuse_seen_id_of))]
 fn refuse_seen_id(tasks: &[TaskDraft], id: Text) -> Result<Text, ReadFault>
     ensures exact { Gives (λ id. id) result (refuse_seen_id_of tasks.now id) }
     ensures fresh { IfOk result (λ id. list_any (λ task. bytes_eq id task.id) tasks.now ≡ false) }
@@ -80,7 +81,9 @@ fn refuse_seen_id(tasks: &[TaskDraft], id: Text) -> Result<Text, ReadFault>
     Ok(id)
 }
 
-#[tactic(auto, unfolding(crate::specs::Reading::place_at))]
+/// The id and the upstreams of a task, read from its object; `tasks` are those before it. A fault where the id is bad
+/// or one of theirs, or where the upstreams are no texts or pass the edges that a file may have.
+#[tactic(auto, unfolding(crate::specs::Reading::task_place_in))]
 fn task_place_of(
     alloc: Global,
     tasks: &[TaskDraft],
@@ -108,7 +111,9 @@ fn task_place_of(
     })
 }
 
-#[tactic(auto, unfolding(crate::specs::Reading::work_at))]
+/// What a task does, read from its object: its rule, kind, command, source, retries. A missing key has its default, a
+/// bad value is a fault.
+#[tactic(auto, unfolding(crate::specs::Reading::task_work_in))]
 fn task_work_of(alloc: Global, task: TaskObject) -> Result<TaskWork, ReadFault>
     ensures exact { Gives (λ w. w) result
         (task_work_in (task_member task.entry.n (view task.entry.value.now))) }
@@ -142,7 +147,9 @@ fn task_work_of(alloc: Global, task: TaskObject) -> Result<TaskWork, ReadFault>
     })
 }
 
-#[tactic(auto, unfolding(crate::specs::Reading::demand_at))]
+/// What a task takes to run, read from its object: its pool, its slots of the pool, and its priority. A missing key
+/// has its default, a bad value is a fault.
+#[tactic(auto, unfolding(crate::specs::Reading::task_demand_in))]
 fn task_demand_of(alloc: Global, task: TaskObject) -> Result<TaskDemand, ReadFault>
     ensures exact { Gives (λ d. d) result
         (task_demand_in (task_member task.entry.n (view task.entry.value.now))) }
@@ -167,8 +174,8 @@ fn task_demand_of(alloc: Global, task: TaskObject) -> Result<TaskDemand, ReadFau
     })
 }
 
-/// The task at n, after those before it.
-#[tactic(auto, unfolding(crate::specs::Reading::task_at))]
+/// The task that has `n` others before it in the file, `tasks`, read from its value; or its first fault.
+#[tactic(auto, unfolding(crate::specs::Reading::task_in))]
 fn task_of(
     alloc: Global,
     tasks: &[TaskDraft],
@@ -201,6 +208,7 @@ fn task_of(
     })
 }
 
+/// The tasks of a graph, in the order of the file, or the fault of the first bad one.
 fn tasks_of(alloc: Global, items: &[Value]) -> Result<Vec<TaskDraft>, ReadFault>
     requires { length items.now ≤ most_tasks }
     ensures exact { Gives (λ v. v.items) result (tasks_from [] 0 (items_view items.now)) }
@@ -214,7 +222,7 @@ fn tasks_of(alloc: Global, items: &[Value]) -> Result<Vec<TaskDraft>, ReadFault>
     Ok(tasks)
 }
 
-/// Refuses more tasks than there may be.
+/// The fault `LimitPassed` at `path` for more items than `MOST_TASKS`.
 fn refuse_too_many_tasks(path: Path, items: &[Value]) -> Result<(), ReadFault>
     ensures exact { Gives (λ u. u) result
         (refuse_beyond_limit_of path (nat_le (items_len (items_view items.now)) most_tasks)) }
@@ -223,8 +231,9 @@ fn refuse_too_many_tasks(path: Path, items: &[Value]) -> Result<(), ReadFault>
     refuse_beyond_limit(path, items.len() <= MOST_TASKS)
 }
 
-/// The tasks of a file, which have to be there.
-#[tactic(auto, unfolding(crate::specs::Reading::tasks_at))]
+/// The tasks of a graph file, in its order; a fault where the field is missing or no list, or has too many or a bad
+/// one.
+#[tactic(auto, unfolding(crate::specs::Reading::tasks_in))]
 pub(crate) fn tasks_at(alloc: Global, field: Field) -> Result<Sequence<TaskDraft>, ReadFault>
     ensures exact { Gives (λ ts. ts) result (tasks_in (member_of field.entry)) }
     ensures tasks { IfOk result AreTasks }

@@ -43,7 +43,7 @@ pub enum StateCause {
     Runs(usize),
 }
 
-/// How many instances of a task are in each state; of one that isn't there as of one that is blocked.
+/// How many instances of a task are in each state; a task that isn't in `settled` counts as one that is blocked.
 pub fn counts_at(settled: &[Settled<'_>], task: u32) -> Counts
     ensures counts { result ≡ counts_in (value_among settled.now task) }
     ensures few { total_of result ≤ 1_024 }
@@ -57,7 +57,8 @@ pub fn counts_at(settled: &[Settled<'_>], task: u32) -> Counts
     }
 }
 
-/// How many instances of these upstreams are in each state.
+/// How many instances of these upstreams are in each state; one that isn't in `settled` counts as one that is
+/// blocked.
 pub fn counts_of_upstreams(settled: &[Settled<'_>], upstreams: &[u32]) -> Counts
     requires { length upstreams.now ≤ 20_000 }
     ensures { result ≡ counts_over (seen_among settled.now) upstreams.now }
@@ -69,6 +70,7 @@ pub fn counts_of_upstreams(settled: &[Settled<'_>], upstreams: &[u32]) -> Counts
     counts
 }
 
+/// Whether a branch with these results succeeded and doesn't follow a task; false where there is no result.
 fn results_skip(plan: &Plan, branch: u32, task: u32, results: &[TaskResult]) -> bool
     requires { task < length plan.now.dag.tasks }
     ensures { result ≡ branch_skips plan.now.dag task branch (TaskValue.Ran results.now) }
@@ -82,7 +84,7 @@ fn results_skip(plan: &Plan, branch: u32, task: u32, results: &[TaskResult]) -> 
     }
 }
 
-/// Whether a branch of this value succeeded and doesn't follow a task.
+/// Whether a branch with this value succeeded and doesn't follow a task.
 fn value_skips(plan: &Plan, branch: u32, task: u32, value: &TaskValue) -> bool
     requires { task < length plan.now.dag.tasks }
     ensures { result ≡ branch_skips plan.now.dag task branch value.now }
@@ -93,7 +95,7 @@ fn value_skips(plan: &Plan, branch: u32, task: u32, value: &TaskValue) -> bool
     }
 }
 
-/// Whether an upstream is a branch that succeeded and doesn't follow a task.
+/// Whether an upstream is a branch that succeeded and doesn't follow a task; false where there is no such upstream.
 pub fn is_skipping_branch(plan: &Plan, settled: &[Settled<'_>], upstream: u32, task: u32) -> bool
     requires { task < length plan.now.dag.tasks }
     ensures { result ≡ branch_is plan.now.dag (branch_skips plan.now.dag task upstream) upstream
@@ -107,7 +109,7 @@ pub fn is_skipping_branch(plan: &Plan, settled: &[Settled<'_>], upstream: u32, t
     }
 }
 
-/// Whether a task is blocked, and so one that isn't there.
+/// Whether a task is blocked, and so has no status; true where there is no such task.
 pub fn is_blocked(settled: &[Settled<'_>], task: u32) -> bool
     ensures { result ≡ is_blocked_in (value_among settled.now task) }
 {
@@ -117,7 +119,7 @@ pub fn is_blocked(settled: &[Settled<'_>], task: u32) -> bool
     }
 }
 
-/// Whether an upstream is a branch that is blocked.
+/// Whether an upstream is a branch without a status; true too for a branch that isn't in `settled`.
 pub fn is_blocked_branch(dag: &Dag, settled: &[Settled<'_>], upstream: u32) -> bool
     ensures { result ≡ branch_is dag.now is_blocked_in upstream
         (Some (value_among settled.now upstream)) }
@@ -125,6 +127,7 @@ pub fn is_blocked_branch(dag: &Dag, settled: &[Settled<'_>], upstream: u32) -> b
     dag.is_branch(upstream) && is_blocked(settled, upstream)
 }
 
+/// Whether one of these upstreams is a branch that succeeded and doesn't follow a task.
 fn has_skipping_branch(plan: &Plan, settled: &[Settled<'_>], task: u32, upstreams: &[u32]) -> bool
     requires { task < length plan.now.dag.tasks }
     ensures { result ≡ list_any (λ u. branch_is plan.now.dag (branch_skips plan.now.dag task u) u
@@ -133,6 +136,7 @@ fn has_skipping_branch(plan: &Plan, settled: &[Settled<'_>], task: u32, upstream
     upstreams.iter().any(|upstream| is_skipping_branch(plan, settled, *upstream, task))
 }
 
+/// Whether one of these upstreams is a branch that is blocked.
 fn any_is_blocked_branch(plan: &Plan, settled: &[Settled<'_>], upstreams: &[u32]) -> bool
     ensures { result ≡ list_any (λ u. branch_is plan.now.dag is_blocked_in u
         (Some (value_among settled.now u))) upstreams.now }
@@ -143,19 +147,22 @@ fn any_is_blocked_branch(plan: &Plan, settled: &[Settled<'_>], upstreams: &[u32]
         .any(|upstream| is_blocked_branch(dag, settled, *upstream))
 }
 
+/// Whether an instance failed.
 fn has_failed(ended: &TaskResult) -> bool
     ensures { result ≡ is_failed ended.now.outcome }
 {
     matches!(ended.outcome, Outcome::Failed)
 }
 
+/// Whether none of these instances failed.
 fn have_passed(results: &[TaskResult]) -> bool
     ensures { result ≡ list_all (λ ended. not (is_failed ended.outcome)) results.now }
 {
     results.iter().all(|ended| !has_failed(ended))
 }
 
-/// Whether a task that depends on its past goes on after this value of the run before.
+/// Whether a task that depends on its past goes on after this value of it in the run before: it was skipped, or ran
+/// and no instance failed.
 #[tactic(auto, using(crate::proofs::CauseFacts::all_passed_is))]
 fn lets_pass(value: &TaskValue) -> bool
     ensures { result ≡ lets_pass_in value.now }
@@ -167,7 +174,8 @@ fn lets_pass(value: &TaskValue) -> bool
     }
 }
 
-/// Whether a task passed in a run of which these are the tasks.
+/// Whether a task that depends on its past goes on after a run with these tasks; false where the run has no such
+/// task.
 fn has_passed(settled: &[Settled<'_>], task: u32) -> bool
     ensures { result ≡ lets_pass_in (value_among settled.now task) }
 {
@@ -177,7 +185,8 @@ fn has_passed(settled: &[Settled<'_>], task: u32) -> bool
     }
 }
 
-/// Whether its past lets a task go on. Nothing is asked of it in the first run.
+/// Whether its past lets `task`, which has this `number`, go on in `run`: it doesn't depend on it, the run is the
+/// first, 0, or it passed in the run before, whose tasks are `before`.
 fn past_lets_go_on(task: &Task, run: usize, before: &[Settled<'_>], number: u32) -> bool
     ensures { result ≡ past_lets_go_on_of task.now.depends_on_past run
         (before_among before.now run number) }
@@ -185,7 +194,7 @@ fn past_lets_go_on(task: &Task, run: usize, before: &[Settled<'_>], number: u32)
     !task.depends_on_past || run == 0 || has_passed(before, number)
 }
 
-/// Whether there is a task of this number that is expanded.
+/// Whether a task is expanded; false where there is no such task.
 #[tactic(auto, unfolding(bf_plan::specs::Plans::task_of))]
 pub fn is_expanded(dag: &Dag, task: u32) -> bool
     ensures { result ≡ is_some (task_of dag.now task).expand }
@@ -196,6 +205,7 @@ pub fn is_expanded(dag: &Dag, task: u32) -> bool
     }
 }
 
+/// How many of these instances pushed a value.
 fn count_pushed(results: &[TaskResult]) -> usize
     ensures { result ≡ length (filter (λ ended. is_some (pushed_value_of ended)) results.now) }
 {
@@ -205,7 +215,7 @@ fn count_pushed(results: &[TaskResult]) -> usize
         .count()
 }
 
-/// How many items the list has that an unmapped source pushed.
+/// How many items are in the list that a source which isn't expanded pushed; None where it pushed no list.
 fn count_listed(results: &[TaskResult]) -> Option<usize>
     ensures { result ≡ item_count (items_of (SourceValues.Pushed (only_pushed_value_in results.now))) }
 {
@@ -218,7 +228,8 @@ fn count_listed(results: &[TaskResult]) -> Option<usize>
     }
 }
 
-/// How many items a source gives that ran, unless they are missing.
+/// How many items a source gives that ran with these results: how many values were pushed where it is expanded, else
+/// how many its list has; None where it pushed no list.
 #[tactic(auto, using(crate::proofs::CauseFacts::pushed_count))]
 fn count_of_ran(is_expanded: bool, results: &[TaskResult]) -> Option<usize>
     ensures { result ≡ item_count (items_of
@@ -231,6 +242,7 @@ fn count_of_ran(is_expanded: bool, results: &[TaskResult]) -> Option<usize>
     }
 }
 
+/// How many items a source of this value gives; None where it didn't run, or isn't expanded and pushed no list.
 fn count_given(is_expanded: bool, value: &TaskValue) -> Option<usize>
     ensures { result ≡ item_count (items_of (values_given is_expanded value.now)) }
 {
@@ -240,7 +252,8 @@ fn count_given(is_expanded: bool, value: &TaskValue) -> Option<usize>
     }
 }
 
-/// How many items a source gives, unless they are missing.
+/// How many items a source gives, by what a report has of it; None where it didn't run, or isn't expanded and pushed
+/// no list.
 #[tactic(auto, using(crate::proofs::CauseFacts::items_by))]
 fn count_items(dag: &Dag, settled: &[Settled<'_>], source: u32) -> Option<usize>
     ensures { result ≡ item_count (items (task_of dag.now source)
@@ -252,7 +265,8 @@ fn count_items(dag: &Dag, settled: &[Settled<'_>], source: u32) -> Option<usize>
     }
 }
 
-/// Of a task that goes on, by the source of its items.
+/// Why this is decided of a task that its rule and its past let run, by `expand`, the source of its items; it runs as
+/// one instance where that is None.
 fn cause_by_source(dag: &Dag, settled: &[Settled<'_>], expand: Option<u32>) -> StateCause
     ensures { (pulled : List (Option Xval)) →
         result ≡ cause_of (cause_by_source_of dag.now (seen_among settled.now) pulled expand) }
@@ -267,7 +281,8 @@ fn cause_by_source(dag: &Dag, settled: &[Settled<'_>], expand: Option<u32>) -> S
     }
 }
 
-/// Of a task that its rule lets run.
+/// Why this is decided of the task `number` that its rule lets run: by its past, and else by the source of its items.
+/// `before` are the tasks of the run before, none for the first, `run` 0.
 fn cause_by_past(
     dag: &Dag,
     run: usize,
@@ -287,7 +302,8 @@ fn cause_by_past(
     }
 }
 
-/// Of a task on which its rule has this verdict.
+/// Why this is decided of the task `number`, whose rule has this verdict. `settled` are the tasks of the run and
+/// `before` those of the run before, none for the first, `run` 0.
 fn cause_by_verdict(
     dag: &Dag,
     run: usize,
@@ -309,7 +325,7 @@ fn cause_by_verdict(
     }
 }
 
-/// A task of the graph, which has few upstreams.
+/// The task of this number, with at most 20,000 upstreams.
 fn task_in(plan: &Plan, task: u32) -> &Task
     requires { task < length plan.now.dag.tasks }
     ensures task { result.now ≡ task_of plan.now.dag task }
@@ -318,8 +334,8 @@ fn task_in(plan: &Plan, task: u32) -> &Task
     plan.dag().task(task)
 }
 
-/// Why the graph decides what it does of a task in the run of this number, over what a report has of the run's tasks and of
-/// those of the run before, which are none before the first.
+/// Why the graph decides what it does of a task in the run of this number, 0 for the first. `settled` are the tasks
+/// of the run and `before` those of the run before, none for the first.
 pub fn cause_at(
     plan: &Plan,
     run: usize,

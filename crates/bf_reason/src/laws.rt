@@ -24,7 +24,8 @@ pub fn letters_tell_the_states()
         told_state (letter_of dag report run task told) ≡ state_of told }
 {}
 
-/// A letter is a digit just where the report has of the task what isn't decided for it over what it has of the others.
+/// A task's letter is a digit exactly where what the report has of the task isn't what is decided for it, over what
+/// the report has of the others.
 pub fn digits_tell_what_does_not_follow()
     ensures { (dag : Dag) (report : Report) (run task : ℕ) (told : TaskReport) →
         is_ascii_digit (letter_of dag report run task told)

@@ -14,7 +14,8 @@ use bf_plan::Plan;
 use bf_report::TaskReport;
 use bf_xcom::{Outcome, TaskResult};
 
-/// The letter of an instance that ended so.
+/// The letter of an instance by how it ended: s for a success in its first try, r for one in a later, f for failed, x
+/// for skipped.
 pub fn ended_letter(ended: &TaskResult) -> u8
     ensures letter { result ≡ ended_letter_of ended.now.outcome ended.now.tries }
     ensures ascii { result < 128 }
@@ -27,6 +28,7 @@ pub fn ended_letter(ended: &TaskResult) -> u8
     }
 }
 
+/// Whether one of these instances has this letter.
 fn some_has_letter(results: &[TaskResult], letter: u8) -> bool
     ensures { result ≡ list_any (λ ended. ended_letter_of ended.outcome ended.tries == letter)
         results.now }
@@ -34,7 +36,7 @@ fn some_has_letter(results: &[TaskResult], letter: u8) -> bool
     results.iter().any(|ended| ended_letter(ended) == letter)
 }
 
-/// The first of f, r and s that some instance has, or else x.
+/// The first of f, r and s whose flag is set, or else x.
 fn letter_by_flags(some_f: bool, some_r: bool, some_s: bool) -> u8
     ensures letter { result ≡ letter_by_flags_of some_f some_r some_s }
     ensures ascii { result < 128 }
@@ -47,6 +49,7 @@ fn letter_by_flags(some_f: bool, some_r: bool, some_s: bool) -> u8
     }
 }
 
+/// The first of f, r and s that one of these instances has, or else x.
 fn first_letter(results: &[TaskResult]) -> u8
     ensures letter { (instances : List InstanceReport) → results.now
         ≡ map (λ instance. instance.result) instances →
@@ -60,6 +63,7 @@ fn first_letter(results: &[TaskResult]) -> u8
     )
 }
 
+/// The letter of an expanded task whose instances this graph decides, by `first_letter` of its instances.
 fn uppercase_letter(first: u8) -> u8
     ensures letter { result ≡ uppercase_letter_of first }
     ensures ascii { result < 128 }
@@ -72,6 +76,7 @@ fn uppercase_letter(first: u8) -> u8
     }
 }
 
+/// The digit of an expanded task whose instances don't follow from this graph, by `first_letter` of its instances.
 fn expanded_digit(first: u8) -> u8
     ensures letter { result ≡ expanded_digit_of first }
     ensures ascii { result < 128 }
@@ -83,6 +88,7 @@ fn expanded_digit(first: u8) -> u8
     }
 }
 
+/// The letter of a skipped task by its cause; a digit where the cause doesn't skip it.
 fn skipped_letter(cause: StateCause) -> u8
     ensures letter { (expanded : Bool) → result ≡ letter_for expanded cause TaskReport.Skipped }
     ensures ascii { result < 128 }
@@ -95,6 +101,7 @@ fn skipped_letter(cause: StateCause) -> u8
     }
 }
 
+/// The letter of an upstream_failed task by its cause; a digit where the cause doesn't make it so.
 fn upstream_failed_letter(cause: StateCause) -> u8
     ensures letter { (expanded : Bool) → result
         ≡ letter_for expanded cause TaskReport.UpstreamFailed }
@@ -107,6 +114,7 @@ fn upstream_failed_letter(cause: StateCause) -> u8
     }
 }
 
+/// The letter of a task without a status by its cause; a digit where the cause gives it one.
 fn no_status_letter(cause: StateCause) -> u8
     ensures letter { (expanded : Bool) → result ≡ letter_for expanded cause TaskReport.NoStatus }
     ensures ascii { result < 128 }
@@ -119,7 +127,8 @@ fn no_status_letter(cause: StateCause) -> u8
     }
 }
 
-/// Of an unmapped task, by its result.
+/// The letter of a task that a report has as one instance, by its result; a digit where the cause isn't that it runs,
+/// or the task is expanded.
 fn ran_letter(is_expanded: bool, cause: StateCause, ended: &TaskResult) -> u8
     ensures letter { (instance : InstanceReport) → instance.result ≡ ended.now →
         result ≡ letter_for is_expanded cause (TaskReport.Ran instance) }
@@ -135,6 +144,7 @@ fn ran_letter(is_expanded: bool, cause: StateCause, ended: &TaskResult) -> u8
     }
 }
 
+/// Whether a cause lets a task run with exactly `count` instances.
 fn runs_with_count(cause: StateCause, count: usize) -> bool
     ensures { result ≡ runs_with_count_in cause count }
 {
@@ -144,7 +154,8 @@ fn runs_with_count(cause: StateCause, count: usize) -> bool
     }
 }
 
-/// Of an expanded task, by the results of its instances.
+/// The letter of a task that a report has as expanded, by its instances' results; a digit where the cause isn't that
+/// it runs with so many, or the task isn't expanded.
 fn mapped_letter(is_expanded: bool, cause: StateCause, results: &[TaskResult]) -> u8
     ensures letter { (instances : List InstanceReport) → results.now
         ≡ map (λ instance. instance.result) instances →
@@ -159,7 +170,8 @@ fn mapped_letter(is_expanded: bool, cause: StateCause, results: &[TaskResult]) -
     }
 }
 
-/// The letter of a task that the report has so, and of which this would be decided for this cause.
+/// The letter of a task for this cause, by what a report has of the task; a digit where that doesn't follow from the
+/// cause.
 pub fn letter_by(is_expanded: bool, cause: StateCause, settled: &Settled<'_>) -> u8
     ensures letter { result ≡ letter_for is_expanded cause settled.now }
     ensures ascii { result < 128 }
@@ -174,7 +186,8 @@ pub fn letter_by(is_expanded: bool, cause: StateCause, settled: &Settled<'_>) ->
     }
 }
 
-/// The letter of a task in the run of this number, of which a report has `settled`, and of the run before `before`.
+/// The letter of a task, which the report has as `told`, in the run of this number, 0 for the first. `settled` are
+/// the tasks of the run and `before` those of the run before, none for the first.
 pub fn letter_at(
     plan: &Plan,
     run: usize,

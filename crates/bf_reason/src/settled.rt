@@ -14,8 +14,8 @@ use bf_xcom::{Outcome, TaskResult, TaskValue};
 use std::alloc::Global;
 use std::marker::Model;
 
-/// What a report has of a task in a run, with the value of the task and its instances counted, so that neither is worked out again
-/// for each task that looks at it. Contracts see what the report has.
+/// What a report has of a task in a run, with the value of the task and its instances counted, so that neither is
+/// worked out again for each task that looks at it. Contracts see what the report has.
 #[derive(Drop)]
 pub struct Settled<'a> {
     told: &'a TaskReport,
@@ -38,6 +38,7 @@ impl<'a> Model for Settled<'a> {
     ghost invariant = { λ s. IsCounted s.told.now s.value s.counts };
 }
 
+/// The counts of one instance with this outcome.
 fn counts_of_outcome(outcome: &Outcome) -> Counts
     ensures { result ≡ one_of outcome.now }
 {
@@ -50,6 +51,7 @@ fn counts_of_outcome(outcome: &Outcome) -> Counts
     counts
 }
 
+/// How many of these instances ended in each state.
 fn counts_of_results(results: &[TaskResult]) -> Counts
     requires { length results.now ≤ 1_024 }
     ensures counts { result ≡ counts_of_results_of results.now }
@@ -62,6 +64,7 @@ fn counts_of_results(results: &[TaskResult]) -> Counts
     counts
 }
 
+/// How many instances of a task of this value are in each state; a task without a try counts as one.
 fn counts_of(value: &TaskValue) -> Counts
     requires { IsFewValue value.now }
     ensures counts { result ≡ counts_in value.now }
@@ -85,7 +88,7 @@ fn counts_of(value: &TaskValue) -> Counts
 }
 
 impl<'a> Settled<'a> {
-    /// What a report has of a task in a run. No task has more than 1,024 instances.
+    /// What a report has of a task in a run, with its value worked out once. The task has at most 1,024 instances.
     pub fn new(alloc: Global, told: &'a TaskReport) -> Result<Settled<'a>, OutOfMemory>
         requires { IsFewTask told.now }
         ensures { IfOk result (λ settled. settled ≡ told.entry.now) }
@@ -99,14 +102,14 @@ impl<'a> Settled<'a> {
         })
     }
 
-    /// What the report has.
+    /// What the report has of the task.
     pub fn task_report(&self) -> &TaskReport
         ensures { result.now ≡ self.now }
     {
         self.told
     }
 
-    /// The value of the task.
+    /// The value of the task, as decisions see it.
     pub fn value(&self) -> &TaskValue
         ensures { result.now ≡ value_in self.now }
     {
@@ -121,7 +124,7 @@ impl<'a> Settled<'a> {
         self.counts
     }
 
-    /// The results of its instances, by map index.
+    /// The results of the task's instances, by map index; none where it has no try.
     pub fn results(&self) -> &[TaskResult]
         ensures { result.now ≡ results_of (value_in self.now) }
     {
@@ -132,7 +135,8 @@ impl<'a> Settled<'a> {
     }
 }
 
-/// The tasks of a run, in file order.
+/// What a report has of each of these tasks, in their order, with its value worked out once. A task has at most 1,024
+/// instances.
 pub fn settled_tasks<'a>(
     alloc: Global,
     tasks: &'a [TaskReport],

@@ -13,7 +13,7 @@ use bf_value::{OutOfMemory, Sequence, Xval, copy_option};
 use bf_xcom::{Outcome, Pulled, TaskResult};
 use std::alloc::Global;
 
-/// What a pushed value's numbers and texts are is known to their types.
+/// A law: an outcome's value is sound, as its type knows. Nothing is done.
 fn outcome_is_sound(outcome: &Outcome)
     ensures { IsSoundOutcome outcome.now }
 {
@@ -22,7 +22,7 @@ fn outcome_is_sound(outcome: &Outcome)
     }
 }
 
-/// The result of an instance that finished so at a try.
+/// The result of an instance that ended with this outcome; `tries` is the number of its last try.
 fn result_of(alloc: Global, outcome: &Outcome, tries: u32) -> Result<TaskResult, OutOfMemory>
     ensures result { IfOk result (λ r. r ≡ record { outcome = outcome.now; tries = tries }) }
     ensures sound { IfOk result (λ r. IsSoundOutcome r.outcome) }
@@ -34,6 +34,7 @@ fn result_of(alloc: Global, outcome: &Outcome, tries: u32) -> Result<TaskResult,
     })
 }
 
+/// A copy of a value; None of None.
 fn copy_of(alloc: Global, value: &Option<Xval>) -> Result<Option<Xval>, OutOfMemory>
     ensures value { IfOk result (λ v. v ≡ value.now) }
     ensures sound { IfOk result IsSoundValue }
@@ -44,7 +45,7 @@ fn copy_of(alloc: Global, value: &Option<Xval>) -> Result<Option<Xval>, OutOfMem
     copy_option(alloc, value.as_ref())
 }
 
-/// What came of a pull, shared with the instance that was given it.
+/// The same pulled value, which shares its memory. Contracts see no sharing.
 fn share_of(pulled: &Pulled) -> Result<Pulled, OutOfMemory>
     ensures value { IfOk result (λ v. v ≡ pulled.now) }
     ensures sound { IfOk result IsSoundValue }
@@ -55,6 +56,7 @@ fn share_of(pulled: &Pulled) -> Result<Pulled, OutOfMemory>
     pulled.share()
 }
 
+/// The pull from the task of a number: its id, and the value pulled from it.
 fn pull_of(alloc: Global, dag: &Dag, task: u32, pulled: &Pulled) -> Result<Pull, OutOfMemory>
     requires { task < length dag.now.tasks }
     ensures pull { IfOk result (λ pull. pull
@@ -67,7 +69,7 @@ fn pull_of(alloc: Global, dag: &Dag, task: u32, pulled: &Pulled) -> Result<Pull,
     })
 }
 
-/// What came of the pulls from these tasks.
+/// The pulls from these tasks, each with the task's id and its one of `values`, in order.
 fn pulls_of(
     alloc: Global,
     dag: &Dag,
@@ -85,7 +87,7 @@ fn pulls_of(
     Ok(Sequence::from_vec(pulls))
 }
 
-/// The report of an instance, where it has finished.
+/// The report of an instance of a task; None where it hasn't finished.
 fn instance_report(
     alloc: Global,
     dag: &Dag,
@@ -109,7 +111,7 @@ fn instance_report(
     )?))
 }
 
-/// The reports of the instances that have finished.
+/// The reports of those instances of a task that have finished, in order; others are left out.
 pub(crate) fn instance_reports(
     alloc: Global,
     dag: &Dag,

@@ -11,8 +11,8 @@ ghost use Rattle.bf_core.specs.Agreement.{HoldsItsTries};
 ghost use Rattle.bf_report.specs.declared.report.Report.{Report};
 ghost use Rattle.bf_report.specs.Dated.{IsDated};
 
-/// Two backfills of one plan over the same data intervals, of which each made just the tries that the recursion asks
-/// for, and whose tries answer alike, have one ledger and one report.
+/// A law: two backfills of one plan over the same data intervals, of which each made just the tries that the
+/// recursion asks for, and whose tries answer alike, have one ledger and one report.
 pub fn alike_ledgers_report_alike()
     ensures { (dag : Dag) → IsSound dag
         → (intervals : List Interval) (one two : FinMap.FinMap name_cmp Entry) →

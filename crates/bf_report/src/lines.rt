@@ -9,7 +9,7 @@ use bf_value::{OutOfMemory, Text, Xval, text_of};
 use bf_xcom::RunState;
 use std::alloc::Global;
 
-/// A value, or `-` for nothing.
+/// Adds a value as compact JSON, or `-` for None. No line feed.
 fn push_value(alloc: Global, text: &mut String, value: Option<&Xval>) -> Result<(), OutOfMemory>
     ensures { OnOk result (string_bytes text.new ≡ string_bytes text.old
         ++ pulled_word (option_copied value.entry)) }
@@ -21,7 +21,7 @@ fn push_value(alloc: Global, text: &mut String, value: Option<&Xval>) -> Result<
     Ok(())
 }
 
-/// How an instance ended, its tries, and what it pushed.
+/// Adds the end of an instance's line: how it ended, the number of its last try, what it pushed, and the line feed.
 fn push_result(
     alloc: Global,
     text: &mut String,
@@ -38,6 +38,7 @@ fn push_result(
     Ok(())
 }
 
+/// Adds the `@item` line of an instance; nothing where it has no item.
 fn push_item(alloc: Global, text: &mut String, item: Option<&Xval>) -> Result<(), OutOfMemory>
     ensures { OnOk result (string_bytes text.new ≡ string_bytes text.old
         ++ item_line (option_copied item.entry)) }
@@ -51,6 +52,7 @@ fn push_item(alloc: Global, text: &mut String, item: Option<&Xval>) -> Result<()
     Ok(())
 }
 
+/// Adds the `@pull` line of a pull, `-` for its value where nothing was pushed.
 fn push_pull(alloc: Global, text: &mut String, pull: &Pull) -> Result<(), OutOfMemory>
     ensures { OnOk result (string_bytes text.new ≡ string_bytes text.old ++ pull_line pull.now) }
 {
@@ -61,6 +63,7 @@ fn push_pull(alloc: Global, text: &mut String, pull: &Pull) -> Result<(), OutOfM
     Ok(())
 }
 
+/// Adds a `@pull` line for each of these pulls.
 fn push_pulls(alloc: Global, text: &mut String, pulls: &[Pull]) -> Result<(), OutOfMemory>
     ensures { OnOk result (string_bytes text.new ≡ string_bytes text.old
         ++ flat_map pull_line pulls.now) }
@@ -71,7 +74,7 @@ fn push_pulls(alloc: Global, text: &mut String, pulls: &[Pull]) -> Result<(), Ou
     Ok(())
 }
 
-/// What an instance was given.
+/// Adds the lines of what an instance was given: its item, where it has one, and its pulls.
 fn push_given(
     alloc: Global,
     text: &mut String,
@@ -84,6 +87,7 @@ fn push_given(
     push_pulls(alloc, text, instance.pulls())
 }
 
+/// Adds the lines of a task that isn't expanded, under its id and the map index -1: its result, item and pulls.
 fn push_unmapped(
     alloc: Global,
     text: &mut String,
@@ -98,6 +102,7 @@ fn push_unmapped(
     push_given(alloc, text, instance)
 }
 
+/// Adds the lines of an instance of the expanded task `id`, under its map index: its result, item and pulls.
 fn push_instance(
     alloc: Global,
     text: &mut String,
@@ -113,6 +118,7 @@ fn push_instance(
     push_given(alloc, text, instance)
 }
 
+/// Adds the lines of all instances of the expanded task `id`, by map index.
 fn push_mapped(
     alloc: Global,
     text: &mut String,
@@ -128,6 +134,7 @@ fn push_mapped(
     Ok(())
 }
 
+/// Adds the line of the task `id` without a try; `state` is the word for its state.
 fn push_untried(text: &mut String, id: &str, state: &str) -> Result<(), OutOfMemory>
     ensures { OnOk result (string_bytes text.new ≡ string_bytes text.old
         ++ untried_line id.now state.now) }
@@ -136,6 +143,7 @@ fn push_untried(text: &mut String, id: &str, state: &str) -> Result<(), OutOfMem
     Ok(())
 }
 
+/// Adds the lines of the task `id` in a run: one where it has no try, and else those of its instances.
 fn push_task(
     alloc: Global,
     text: &mut String,
@@ -154,6 +162,7 @@ fn push_task(
     }
 }
 
+/// Adds the lines of the tasks of a run; `ids` has the id of each, in order.
 fn push_tasks(
     alloc: Global,
     text: &mut String,
@@ -169,6 +178,7 @@ fn push_tasks(
     Ok(())
 }
 
+/// The word for the state of a run.
 fn run_state_word(state: RunState) -> &'static str
     ensures { result.now ≡ run_state_word_of state }
 {
@@ -178,6 +188,7 @@ fn run_state_word(state: RunState) -> &'static str
     }
 }
 
+/// Adds the `@run` line of a run: its data interval and its state.
 fn push_run_line(text: &mut String, run: &RunReport) -> Result<(), OutOfMemory>
     ensures { OnOk result (string_bytes text.new ≡ string_bytes text.old ++ run_line run.now) }
 {
@@ -190,6 +201,7 @@ fn push_run_line(text: &mut String, run: &RunReport) -> Result<(), OutOfMemory>
     Ok(())
 }
 
+/// Adds the lines of a run: its own, and those of its tasks, whose ids are `ids`.
 fn push_run(
     alloc: Global,
     text: &mut String,
@@ -203,6 +215,7 @@ fn push_run(
     push_tasks(alloc, text, ids, run.tasks.as_slice())
 }
 
+/// Adds the lines of all these runs; `ids` are the ids of their tasks.
 fn push_runs(
     alloc: Global,
     text: &mut String,
@@ -218,6 +231,7 @@ fn push_runs(
     Ok(())
 }
 
+/// The word for a report's version, on its first line.
 fn version_word(version: Version) -> &'static str
     ensures { result.now ≡ version_word_of version }
 {
@@ -227,7 +241,7 @@ fn version_word(version: Version) -> &'static str
     }
 }
 
-/// The text of a report.
+/// The whole text of a report, from the `@backfill` line to the `@end` line, its line feed included.
 pub(crate) fn text_of_report(alloc: Global, report: &Report) -> Result<String, OutOfMemory>
     ensures { IfOk result (λ text. string_bytes text ≡ report_text report.now) }
 {

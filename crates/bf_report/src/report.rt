@@ -9,8 +9,8 @@ use bf_xcom::{Outcome, Pulled, RunState, TaskResult};
 use std::alloc::Global;
 use std::marker::Model;
 
-/// The version of a report. One of version 1 doesn't tell what the instances were given: in it no instance has an item
-/// or pulls.
+/// The version of a report. One of version 1 doesn't tell what the instances were given: in it no instance has an
+/// item or pulls.
 #[derive(Clone, Copy, Debug, PartialEq, Eq)]
 pub enum Version {
     One,
@@ -42,6 +42,7 @@ enum Kept {
 }
 
 impl Kept {
+    /// What is kept of an instance that pushed a value or was given something, but for its number of tries.
     #[inline(always)]
     fn new(
         alloc: Global,
@@ -100,7 +101,7 @@ impl Model for InstanceReport {
 impl InstanceReport {
     ghost use Rattle.bf_report.specs.Report.{state_word, value_word, pulled_word};
 
-    /// An instance that was given nothing, as far as is known.
+    /// An instance with how it ended, without an item and without pulls.
     #[inline(always)]
     pub fn new_bare(alloc: Global, ended: TaskResult) -> Result<InstanceReport, OutOfMemory>
         ensures { IfOk result (λ instance. instance
@@ -119,7 +120,7 @@ impl InstanceReport {
         Ok(InstanceReport { tries, kept })
     }
 
-    /// An instance with what it was given.
+    /// An instance, with how it ended, its item, None for a task that isn't expanded, and its pulls.
     pub fn new(
         alloc: Global,
         ended: TaskResult,
@@ -137,7 +138,7 @@ impl InstanceReport {
         Ok(InstanceReport { tries, kept })
     }
 
-    /// What came of it.
+    /// How the last try of the instance ended, and its number. The value that it pushed is copied.
     pub fn result(&self, alloc: Global) -> Result<TaskResult, OutOfMemory>
         ensures { IfOk result (λ ended. ended ≡ self.now.result) }
     {
@@ -151,7 +152,7 @@ impl InstanceReport {
         Ok(TaskResult { outcome, tries })
     }
 
-    /// The word for how its last try ended.
+    /// The word for how the instance's last try ended.
     pub(crate) fn state(&self) -> &'static str
         ensures { result.now ≡ state_word self.now.result.outcome }
     {
@@ -167,14 +168,14 @@ impl InstanceReport {
         }
     }
 
-    /// The number of its last try.
+    /// The number of the instance's last try.
     pub(crate) fn tries(&self) -> u32
         ensures { result ≡ self.now.result.tries }
     {
         self.tries
     }
 
-    /// What it pushed.
+    /// What the instance pushed; None where it pushed nothing or didn't succeed.
     pub(crate) fn pushed(&self) -> Option<&Xval>
         ensures { pulled_word (option_copied result) ≡ value_word self.now.result.outcome }
     {
@@ -187,7 +188,7 @@ impl InstanceReport {
         }
     }
 
-    /// Its item.
+    /// The item that the instance was given; None where it was given none.
     pub fn item(&self) -> Option<&Xval>
         ensures { option_copied result ≡ self.now.item }
     {
@@ -197,7 +198,7 @@ impl InstanceReport {
         }
     }
 
-    /// What it pulled, in the order of its task's pulls.
+    /// What the instance pulled, in the order of its task's pulls.
     pub fn pulls(&self) -> &[Pull]
         ensures { result.now ≡ self.now.pulls }
     {
@@ -207,7 +208,7 @@ impl InstanceReport {
         }
     }
 
-    /// Says what its item was, in the place of what was said before.
+    /// Sets the item that the instance was given, in the place of the one before.
     pub fn set_item(&mut self, alloc: Global, item: Xval) -> Result<(), OutOfMemory>
         ensures { OnOk result (self.new ≡ record self.old { item = Some item }) }
     {
@@ -220,7 +221,7 @@ impl InstanceReport {
         Ok(())
     }
 
-    /// Adds a pull behind the others.
+    /// Adds a pull of the instance after the others.
     pub fn add_pull(&mut self, alloc: Global, pull: Pull) -> Result<(), OutOfMemory>
         ensures { OnOk result (self.new ≡ record self.old { pulls = self.old.pulls ++ pull ∷ [] }) }
     {
@@ -236,8 +237,8 @@ impl InstanceReport {
 }
 
 /// What came of a task in a run: it was blocked, which is reported as `no_status`; or it was skipped, or
-/// upstream_failed, without a try; or it ran, as one instance or, for an expanded task, with an instance for each item
-/// by map index.
+/// upstream_failed, without a try; or it ran, as one instance or, for an expanded task, with an instance for each
+/// item by map index.
 #[derive(Debug, Drop)]
 pub enum TaskReport {
     NoStatus,

@@ -4,12 +4,12 @@ use Rattle.bf_report_reader.specs.declared.fault.ReportFault.{ReportFault}
 use Rattle.bf_report_reader.specs.declared.fault.ReportFault.TheVariants.{BadLine, TooLong, Truncated, Io, OutOfMemory}
 
 -- the number of the refusal, which a fault of the device and want of memory don't have
-abbrev pub fault_number : ReportFault → Option ℕ
-fault_number (BadLine line) = Some 30
-fault_number (TooLong line) = Some 31
-fault_number Truncated = Some 32
-fault_number Io = None
-fault_number OutOfMemory = None
+abbrev pub refusal_number_of : ReportFault → Option ℕ
+refusal_number_of (BadLine line) = Some 30
+refusal_number_of (TooLong line) = Some 31
+refusal_number_of Truncated = Some 32
+refusal_number_of Io = None
+refusal_number_of OutOfMemory = None
 
 -- why there is no report, as it is printed
 abbrev pub fault_text : ReportFault → List ℕ

@@ -14,7 +14,7 @@ use bf_value::{OutOfMemory, Sequence, Text};
 use bf_xcom::TaskResult;
 use std::alloc::Global;
 
-/// Puts a run that has no more lines behind the others.
+/// Adds a run, of which all lines were read, at the end of `runs`; nothing for None.
 fn add_closed(runs: &mut Sequence<RunReport>, run: Option<OpenRun>) -> Result<(), OutOfMemory>
     ensures { OnOk result (runs.new ≡ runs.old ++ last_run run) }
 {
@@ -36,7 +36,7 @@ pub(crate) struct ReportSoFar {
 }
 
 impl ReportSoFar {
-    /// A report of which the head was read.
+    /// A report of which only the head was read, with this version and dag id.
     pub fn new(alloc: Global, version: Version, dag_id: Text) -> ReportSoFar
         ensures { result ≡ record {
           version = version;
@@ -55,7 +55,7 @@ impl ReportSoFar {
         }
     }
 
-    /// How many runs were read.
+    /// How many runs were read, the one whose tasks are read among them.
     pub fn run_count(&self) -> usize
         ensures { result ≡ run_count_of self.now }
     {
@@ -66,7 +66,8 @@ impl ReportSoFar {
         }
     }
 
-    /// Whether the instance that was read last has its item, where the version tells one.
+    /// Whether the instance that was read last has its item. True where it needs none: it isn't of an expanded task,
+    /// or the report's version tells no items.
     fn has_its_item(&self) -> bool
         ensures { result ≡ has_its_item_at self.now }
     {
@@ -76,7 +77,7 @@ impl ReportSoFar {
         }
     }
 
-    /// Whether each run has all tasks.
+    /// Whether the last run has as many tasks as the first; true before the first run.
     fn has_all_tasks(&self) -> bool
         ensures { result ≡ is_whole_in self.now.run self.now.tasks }
     {
@@ -86,14 +87,16 @@ impl ReportSoFar {
         }
     }
 
-    /// Whether each run has all tasks, with all that is told of them.
+    /// Whether the last run has all tasks, each with all that the report's version tells of it; true before the first
+    /// run.
     pub fn is_whole(&self) -> bool
         ensures { result ≡ is_whole_at self.now }
     {
         self.has_its_item() && self.has_all_tasks()
     }
 
-    /// Whether a run with this data interval may stand next.
+    /// Whether a run of this data interval may be next: what was read is whole, there is room for a run, and the last
+    /// run starts before this one.
     fn may_begin(&self, interval: Interval) -> bool
         ensures { result ≡ may_begin_in self.now interval }
     {
@@ -106,7 +109,7 @@ impl ReportSoFar {
         }
     }
 
-    /// Adds a run without its tasks, where it may stand next.
+    /// Adds a run without its tasks. False, and nothing is added, where it may not be next (`may_begin`).
     pub fn add_run(&mut self, run: RunReport) -> Result<bool, OutOfMemory>
         requires { run.tasks ≡ [] }
         ensures { IfOk result (λ taken.
@@ -119,7 +122,8 @@ impl ReportSoFar {
         Ok(true)
     }
 
-    /// Whether a task with this id may stand next in the first run: it is an id that isn't there yet.
+    /// Whether a task with this id may be next in the first run: it is an id, no task of the run has it yet, and
+    /// there is room for a task.
     fn is_new_id(&self, id: &[u8]) -> bool
         ensures { result ≡ is_new_id_in self.now.tasks id.now }
     {
@@ -129,7 +133,8 @@ impl ReportSoFar {
         is_id(id) && self.tasks.len() < MOST_TASKS && !self.tasks.contains(id)
     }
 
-    /// Whether a task with this id may stand next: in the first run any that isn't there yet, in the others the next one.
+    /// Whether a task with this id may be next in the last run: in the first run any that has no task yet, in each
+    /// other run only the first run's next one. False before the first run.
     fn is_next_id(&self, id: &[u8]) -> bool
         ensures { result ≡ is_next_id_at self.now id.now }
     {
@@ -145,6 +150,7 @@ impl ReportSoFar {
         self.tasks.has_at(open.task_count(), id)
     }
 
+    /// Adds the id of a task of the first run to `tasks`; does nothing in a later run, whose ids are known.
     fn add_id(&mut self, alloc: Global, id: &[u8]) -> Result<(), OutOfMemory>
         requires { is_next_id_at self.old id.now ≡ true }
         ensures { OnOk result (self.new ≡ record self.old {
@@ -160,7 +166,8 @@ impl ReportSoFar {
         self.tasks.add(alloc, id)
     }
 
-    /// Adds a task without a try, where it may stand next.
+    /// Adds a task without a try, for the reason `untried`. False, and nothing is added, where a task with this id
+    /// may not be next (`is_next_id`).
     fn add_untried_task(
         &mut self,
         alloc: Global,
@@ -180,7 +187,8 @@ impl ReportSoFar {
         Ok(true)
     }
 
-    /// Adds a task by its first instance, where it may stand next.
+    /// Adds a task by its first instance, which ended as `first`. False, and nothing is added, where a task with this
+    /// id may not be next (`is_next_id`).
     #[inline(always)]
     fn add_open_task(
         &mut self,
@@ -202,7 +210,8 @@ impl ReportSoFar {
         Ok(true)
     }
 
-    /// Whether an instance with this index is the next of the task that stands last.
+    /// Whether an instance with this id and map index may be next: the task read last has this id, is expanded, and
+    /// has `index` instances, the last with its item.
     fn is_next_instance(&self, id: &[u8], index: u32) -> bool
         ensures { result ≡ is_next_instance_at self.now id.now index }
     {
@@ -215,7 +224,8 @@ impl ReportSoFar {
         self.tasks.has_at(open.task_count() - 1, id)
     }
 
-    /// Adds a further instance of an expanded task, where it may stand next.
+    /// Adds a further instance, which ended as `ended`, to the task that was read last. False, and nothing is added,
+    /// where it may not be next (`is_next_instance`).
     fn add_instance(
         &mut self,
         alloc: Global,
@@ -235,8 +245,8 @@ impl ReportSoFar {
         Ok(true)
     }
 
-    /// Adds what a line says of a task, where it may stand next.
-    #[tactic(auto, unfolding(crate::specs::ReportSoFar::with_entry))]
+    /// Adds what the line of the task `id` says. False, and nothing is added, where that line may not be next.
+    #[tactic(auto, unfolding(crate::specs::Beginning::with_entry))]
     pub fn add_entry(&mut self, alloc: Global, id: &[u8], entry: Entry) -> Result<bool, OutOfMemory>
         ensures { IfOk result (λ taken.
             with_entry self.old id.now entry ≡ (if taken then Some self.new else None)) }
@@ -249,7 +259,8 @@ impl ReportSoFar {
         }
     }
 
-    /// Whether a part of what the instance that was read last was given may stand next.
+    /// Whether the item or pull `part` may be next, as one of the instance that was read last; false before the first
+    /// run.
     fn may_take_part(&self, part: &GivenPart) -> bool
         ensures { result ≡ may_take_part_in self.now.version self.now.run part.now }
     {
@@ -259,7 +270,8 @@ impl ReportSoFar {
         }
     }
 
-    /// Adds a part of what the instance that was read last was given, where it may stand next.
+    /// Adds an item or a pull of the instance that was read last. False, and nothing is added, where it may not be
+    /// next.
     pub fn add_part(&mut self, alloc: Global, part: GivenPart) -> Result<bool, OutOfMemory>
         ensures { IfOk result (λ taken.
             with_part self.old part ≡ (if taken then Some self.new else None)) }
@@ -273,7 +285,7 @@ impl ReportSoFar {
         Ok(true)
     }
 
-    /// The report, of which the end was read.
+    /// The report, once its last line was read; the run whose tasks were read last is added to its runs.
     pub fn into_report(self, alloc: Global) -> Result<Report, OutOfMemory>
         ensures { IfOk result (λ report. report ≡ so_far self) }
     {

@@ -23,7 +23,7 @@ pub(crate) enum Untried {
 }
 
 impl Untried {
-    /// The task, in a report.
+    /// What a report has of a task without a try for this reason.
     pub fn report(self) -> TaskReport
         ensures { result ≡ never_report self }
     {
@@ -49,7 +49,8 @@ const MOST_TRIES: u32 = MOST_RETRIES + 1;
 /// Index, state, tries and value.
 type Fields<'a> = (&'a [u8], &'a [u8], &'a [u8], &'a [u8]);
 
-/// The four fields of a text.
+/// The map index, the state, the tries and the value in `text`, a task's line after its id; None where there are
+/// fewer than four fields.
 fn fields_of(text: &[u8]) -> Option<Fields<'_>>
     ensures some { IfSome result (λ f. AreFields text.now f.0.now f.1.now f.2.now f.3.now) }
     ensures none { IfNone result ((index state tries value : List ℕ) →
@@ -61,7 +62,8 @@ fn fields_of(text: &[u8]) -> Option<Fields<'_>>
     Some((index, state, tries, value))
 }
 
-/// A map index, or `-1` for none.
+/// The map index that a field spells: `Some(None)` for `-1`, the index of a task that isn't expanded. None for any
+/// other text, and from `MOST_ITEMS` on.
 fn index_in(text: &[u8]) -> Option<Option<u32>>
     ensures some { IfSome result (Spells IsIndex index_text text.now) }
     ensures every { Finds (Spells IsIndex index_text text.now) result }
@@ -76,7 +78,7 @@ fn index_in(text: &[u8]) -> Option<Option<u32>>
     Some(Some(index))
 }
 
-/// The state of a task without a try.
+/// The state that a word says of a task without a try; None for any other word.
 fn untried_state_in(state: &[u8]) -> Option<Untried>
     ensures some { IfSome result (λ u. state.now ≡ never_word u) }
     ensures every { Finds (λ u. state.now ≡ never_word u) result }
@@ -92,7 +94,7 @@ fn untried_state_in(state: &[u8]) -> Option<Untried>
     }
 }
 
-/// A task without a try.
+/// The state of a task without a try by its four fields, `-1`, the state, `0` and `-`; None for any others.
 fn untried_in(index: &[u8], state: &[u8], tries: &[u8], value: &[u8]) -> Option<Untried>
     ensures some { IfSome result (SaysNever index.now state.now tries.now value.now) }
     ensures every { Finds (SaysNever index.now state.now tries.now value.now) result }
@@ -103,7 +105,7 @@ fn untried_in(index: &[u8], state: &[u8], tries: &[u8], value: &[u8]) -> Option<
     None
 }
 
-/// The number of an instance's last try.
+/// The number of the last try that a field spells, from 1 to `MOST_TRIES`; None for any other text.
 fn tries_in(text: &[u8]) -> Option<u32>
     ensures some { IfSome result (Spells IsTries decimal text.now) }
     ensures every { Finds (Spells IsTries decimal text.now) result }
@@ -115,7 +117,8 @@ fn tries_in(text: &[u8]) -> Option<u32>
     Some(tries)
 }
 
-/// What came of an instance with at least one try.
+/// How an instance with a try ended, by its last three fields; None where they are no state, number of tries and
+/// value, or don't fit.
 fn result_in(
     alloc: Global,
     state: &[u8],
@@ -134,7 +137,7 @@ fn result_in(
     }
 }
 
-/// What a text says of a task.
+/// What `text`, a task's line after its id, says of the task; None where it isn't written as reports write it.
 pub(crate) fn entry_in(alloc: Global, text: &[u8]) -> Result<Option<Entry>, OutOfMemory>
     ensures some { IfOk result (λ o. IfSome o (Spells IsEntry entry_text text.now)) }
     ensures every { IfOk result (Finds (Spells IsEntry entry_text text.now)) }

@@ -1,6 +1,6 @@
 //! Why a report was not read.
 ghost use Rattle.std.specs.Prelude.{◌≡◌};
-ghost use Rattle.bf_report_reader.specs.Refusals.{fault_number};
+ghost use Rattle.bf_report_reader.specs.Refusals.{refusal_number_of};
 
 use bf_value::OutOfMemory;
 use std::error::Error;
@@ -21,9 +21,9 @@ pub enum ReportFault {
 }
 
 impl ReportFault {
-    /// The number of the refusal, which a fault of the device and want of memory don't have.
+    /// The number of the refusal (docs/FORMATS.md), 30 to 32; None for a fault of the device and for want of memory.
     pub fn refusal_number(self) -> Option<u32>
-        ensures { result ≡ fault_number self }
+        ensures { result ≡ refusal_number_of self }
     {
         match self {
             ReportFault::BadLine(_) => Some(30),
@@ -40,6 +40,7 @@ impl fmt::Display for ReportFault {
 
     ghost output = { λ fault. Some (fault_text fault) };
 
+    /// Writes the words of the fault, as `bad line: 3`.
     fn fmt<W: fmt::Write>(&self, f: &mut fmt::Formatter<W>) -> fmt::Result {
         match self {
             ReportFault::BadLine(line) => write!(f, "bad line: {line}"),

@@ -14,7 +14,7 @@ pub(crate) const LONGEST_LINE: usize = 66_000;
 /// How many bytes one read may give.
 const ROOM: usize = 8_192;
 
-/// Where the first line feed stands.
+/// The index of the first line feed; None where there is none.
 #[tactic(auto, using(crate::proofs::Finding::first_is))]
 pub(crate) fn line_feed_in(bytes: &[u8]) -> Option<usize>
     ensures { result ≡ position (λ b. b == 10) bytes.now }
@@ -22,8 +22,8 @@ pub(crate) fn line_feed_in(bytes: &[u8]) -> Option<usize>
     memchr(b'\n', bytes)
 }
 
-/// The bytes that were read from a device and not used yet, the line before them that was taken off whole, and how often
-/// the device was interrupted.
+/// The bytes that were read from a device and not used yet, the line before them that was taken off whole, and how
+/// often the device was interrupted.
 #[derive(Drop)]
 pub(crate) struct ReadBuffer {
     pub room: Vec<u8>,
@@ -43,6 +43,7 @@ pub(crate) struct ReadBuffer {
 impl ReadBuffer {
     ghost use Rattle.bf_report_reader.specs.Held.{held_bytes, held_line, ahead, Tallies, Breaks, TakesLine, KeepsAll};
 
+    /// A buffer that holds nothing yet, for a device of which no interruption was counted.
     pub fn new(alloc: Global) -> Result<ReadBuffer, OutOfMemory>
         ensures { IfOk result (λ held. (held_bytes held ≡ []) × (held.interruptions ≡ 0)) }
     {
@@ -56,7 +57,8 @@ impl ReadBuffer {
         })
     }
 
-    /// Reads once more from the device, and says whether it gave anything. Interruptions are counted over all calls.
+    /// Reads once more from the device into the empty buffer, and gives whether bytes came: none is the end. `Halted`
+    /// where a read fails, and at the 1,001st interruption over all calls.
     fn fill<R: Read>(&mut self, device: &mut R) -> Result<bool, Halted>
         requires { self.old.start ≡ self.old.end }
         ensures bytes { OnOk result
@@ -89,7 +91,7 @@ impl ReadBuffer {
         }
     }
 
-    /// Whether more bytes come: where none are held, it reads.
+    /// Whether more bytes come. Reads from the device only where the buffer is empty; `Halted` where that fails.
     pub fn has_more<R: Read>(&mut self, device: &mut R) -> Result<bool, Halted>
         ensures same { OnOk result (Consumes (ahead self.old (R.left device.old))
             (ahead self.new (R.left device.new)) []) }
@@ -109,14 +111,14 @@ impl ReadBuffer {
         self.fill(device)
     }
 
-    /// The bytes that are held.
+    /// The bytes that were read and not taken yet.
     pub fn bytes(&self) -> &[u8]
         ensures { result.now ≡ held_bytes self.now }
     {
         &self.room[self.start..self.end]
     }
 
-    /// Lets go of the first bytes that are held.
+    /// Drops the first `count` of the bytes in the buffer.
     pub fn skip(&mut self, count: usize)
         requires { count ≤ length (held_bytes self.old) }
         ensures bytes { held_bytes self.new ≡ drop count (held_bytes self.old) }
@@ -125,7 +127,8 @@ impl ReadBuffer {
         self.start += count;
     }
 
-    /// Takes a line off that is held whole, where its line feed comes soon enough for any line. Says whether it could.
+    /// Takes the next line off, with its line feed, and gives true; false, and nothing is taken, where the buffer
+    /// doesn't have all of it, or it is longer than `LONGEST_LINE`.
     pub fn take_line(&mut self) -> bool
         ensures { MatchBool result (TakesLine self.old self.new) (KeepsAll self.old self.new) }
     {
@@ -140,7 +143,7 @@ impl ReadBuffer {
         }
     }
 
-    /// The line that was taken off whole.
+    /// The line that was taken off last, without its line feed.
     pub fn line(&self) -> &[u8]
         ensures { result.now ≡ held_line self.now }
     {

@@ -25,7 +25,7 @@ impl Model for TaskIds {
 }
 
 impl TaskIds {
-    /// No ids.
+    /// A list without ids.
     pub fn new(alloc: Global) -> TaskIds
         ensures { result ≡ [] }
     {
@@ -41,14 +41,14 @@ impl TaskIds {
         self.set.len()
     }
 
-    /// Whether an id is there.
+    /// Whether an id is in the list.
     pub fn contains(&self, id: &str) -> bool
         ensures { result ≡ list_any (λ task. bytes_eq task id.now) self.now }
     {
         self.set.contains(id)
     }
 
-    /// Whether the task of that number has an id.
+    /// Whether the task of this number, from 0, has this id; false where there is no such task.
     pub fn has_at(&self, number: usize, id: &[u8]) -> bool
         ensures { result ≡ is_text (slice_get self.now number) id.now }
     {
@@ -58,7 +58,7 @@ impl TaskIds {
         }
     }
 
-    /// Adds an id that isn't there behind the others.
+    /// Adds an id, which isn't in the list, at its end.
     pub fn add(&mut self, alloc: Global, id: &str) -> Result<(), OutOfMemory>
         requires { list_any (λ task. bytes_eq task id.now) self.old ≡ false }
         ensures { OnOk result (self.new ≡ self.old ++ id.now ∷ []) }
@@ -67,7 +67,7 @@ impl TaskIds {
         Ok(())
     }
 
-    /// The ids as texts.
+    /// The ids as texts, in order.
     pub fn into_texts(self, alloc: Global) -> Result<Sequence<Text>, OutOfMemory>
         ensures { IfOk result (λ texts. texts ≡ self) }
     {

@@ -17,7 +17,7 @@ const LAST_END_NANOSECOND: i128 = 7_542_115_199_000_000_000;
 /// How many bytes a moment has.
 const MOMENT_LEN: usize = 20;
 
-/// The moment that a text spells.
+/// The moment that a text spells as `2024-01-31T06:05:09Z`, from 1970 to the end of 2208; None for any other text.
 fn report_moment_in(text: &[u8]) -> Option<Timestamp>
     ensures some { IfSome result (Spells IsReportMoment spelled_moment text.now) }
     ensures every { Finds (Spells IsReportMoment spelled_moment text.now) result }
@@ -35,6 +35,7 @@ fn report_moment_in(text: &[u8]) -> Option<Timestamp>
     Some(moment)
 }
 
+/// The state of a run that a word says; None for any other word.
 fn run_state_in(text: &[u8]) -> Option<RunState>
     ensures some { IfSome result (λ state. text.now ≡ run_state_word_of state) }
     ensures every { Finds (λ state. text.now ≡ run_state_word_of state) result }
@@ -48,7 +49,8 @@ fn run_state_in(text: &[u8]) -> Option<RunState>
     }
 }
 
-/// The data interval and the state of a run.
+/// The data interval and the state that a run's line says after `@run `; None where they aren't written as reports
+/// write them, the start is after the end, or not in the years of runs.
 pub(crate) fn run_in(text: &[u8]) -> Option<(Interval, RunState)>
     ensures some { IfSome result (Spells IsRunWords run_words text.now) }
     ensures every { Finds (Spells IsRunWords run_words text.now) result }

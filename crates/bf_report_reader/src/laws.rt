@@ -15,14 +15,14 @@ ghost use Rattle.bf_report.specs.Report.{report_text};
 ghost use Rattle.bf_report_reader.specs.Rules.{IsShownReport};
 ghost use Rattle.bf_interval.specs.Runs.{AreOfRuns};
 
-/// No two reports have one text.
+/// A law: no two reports that keep the rules of a report have one text.
 pub fn no_two_reports_have_one_text()
     ensures { (one two : Report) → IsShownReport one → IsShownReport two →
         report_text one ≡ report_text two → one ≡ two }
 {}
 
-/// A report of a backfill that has ended keeps the rules of a report, so that it is read back as itself: the backfill is
-/// of a sound plan with ids, over data intervals that runs have.
+/// A law: the report of a backfill that has ended keeps the rules of a report, so that it is read back as itself,
+/// where the backfill is of a sound plan with ids, over data intervals that runs have.
 pub fn reports_of_backfills_keep_the_rules()
     ensures { (dag : Dag) → IsSound dag → IsNamed dag → (intervals : List Interval)
         → AreOfRuns intervals →

@@ -23,7 +23,8 @@ pub(crate) enum LineEnd {
     TooMuch,
 }
 
-/// How many bytes a line may have that begins so. Where it may yet become that of a pull, that is the lesser limit.
+/// How many bytes a line may have that begins with `line`, its line feed not counted. The limit of a pull's line, the
+/// greater one, holds from its `@pull ` on.
 fn limit_of(line: &[u8]) -> usize
     ensures { result ≡ longest_line line.now }
 {
@@ -34,8 +35,8 @@ fn limit_of(line: &[u8]) -> usize
     }
 }
 
-/// Moves bytes that are held to a line, up to the first that is one too many for it, or up to the line feed, which is
-/// let go of. Says whether it was there.
+/// Moves bytes from the buffer to `line`, up to the first that is too many for it, or up to its line feed, which is
+/// dropped. True where the line feed was there.
 fn move_piece(held: &mut ReadBuffer, line: &mut Vec<u8>) -> Result<bool, OutOfMemory>
     requires { length line.old.items ≤ longest_line line.old.items }
     ensures piece { IfOk result (λ ended. MovesPiece ended
@@ -60,7 +61,8 @@ fn move_piece(held: &mut ReadBuffer, line: &mut Vec<u8>) -> Result<bool, OutOfMe
     }
 }
 
-/// Takes the bytes of a line off a device.
+/// Reads the next line off the device into `line`, without its line feed, and gives how it ended; `Io` where a read
+/// fails.
 pub(crate) fn next_line<R: Read>(
     held: &mut ReadBuffer,
     device: &mut R,

@@ -18,7 +18,7 @@ use bf_xcom::TaskResult;
 use std::alloc::Global;
 use std::marker::Model;
 
-/// How many pulls an instance may have.
+/// How many pulls a report of this version may tell of an instance: none in version 1.
 fn most_pulls(version: Version) -> usize
     ensures { result ≡ most_told version }
 {
@@ -28,7 +28,8 @@ fn most_pulls(version: Version) -> usize
     }
 }
 
-/// Whether the last instance of a task has its item, where the version tells one.
+/// Whether the last instance of a task has its item. True where it needs none: the task isn't expanded, or the
+/// version tells no items.
 fn has_its_item(version: Version, task: &TaskReport) -> bool
     ensures { result ≡ is_given_task version (open_by task.now) }
 {
@@ -41,14 +42,15 @@ fn has_its_item(version: Version, task: &TaskReport) -> bool
     }
 }
 
-/// Whether an instance has a pull from the task of an id.
+/// Whether an instance has a pull from the task of this id.
 fn has_pull(instance: &InstanceReport, id: &str) -> bool
     ensures { result ≡ list_any (λ pull. bytes_eq pull.task id.now) instance.now.pulls }
 {
     instance.pulls().iter().any(|pull| pull.task.as_str() == id)
 }
 
-/// Whether a part of what an instance was given may stand next, behind its item, where it has one, or in its place.
+/// Whether an item or a pull of an instance may be next: an item only where the instance wants one (not `is_given`),
+/// a pull only after that, from another task than the pulls before, and no more than the version has.
 fn instance_may_take(
     version: Version,
     is_given: bool,
@@ -67,7 +69,7 @@ fn instance_may_take(
     }
 }
 
-/// Whether a part of what the last instance of a task was given may stand next.
+/// Whether an item or a pull may be next, as one of the last instance of this task; false where it has no instance.
 fn task_may_take(version: Version, task: &TaskReport, part: &GivenPart) -> bool
     ensures { result ≡ takes_task version (open_by task.now) part.now }
 {
@@ -82,7 +84,7 @@ fn task_may_take(version: Version, task: &TaskReport, part: &GivenPart) -> bool
     }
 }
 
-/// Whether an instance with this index is the next of a task.
+/// Whether an instance with this map index is the next of an expanded task, which has as many; false for other tasks.
 fn is_next_index(task: &TaskReport, index: u32) -> bool
     ensures { result ≡ is_further_task (open_by task.now) index }
 {
@@ -92,7 +94,7 @@ fn is_next_index(task: &TaskReport, index: u32) -> bool
     }
 }
 
-/// Tells a part of what an instance was given.
+/// Adds an item, in place of any before, or a pull to an instance.
 fn add_part_to_instance(
     alloc: Global,
     instance: &mut InstanceReport,
@@ -106,8 +108,8 @@ fn add_part_to_instance(
     }
 }
 
-/// A pull of the last of these instances, whose value is that of the instance before it where the two are equal, so that what all
-/// instances of a task pull is held once.
+/// The pull, to be added to the last of these instances. Where the instance before it pulled an equal value, it
+/// shares that one's memory, which contracts don't see.
 fn share_known_value(instances: &[InstanceReport], pull: Pull) -> Result<Pull, OutOfMemory>
     ensures { IfOk result (λ same. same ≡ pull) }
 {
@@ -123,7 +125,8 @@ fn share_known_value(instances: &[InstanceReport], pull: Pull) -> Result<Pull, O
     }
 }
 
-/// A part of what the last of these instances was given, which shares what it can.
+/// The item or pull, to be added to the last of these instances; a pull's value shares memory with an equal one of
+/// the instance before it, which contracts don't see.
 fn share_known_part(instances: &[InstanceReport], part: GivenPart) -> Result<GivenPart, OutOfMemory>
     ensures { IfOk result (λ same. same ≡ part) }
 {
@@ -133,7 +136,7 @@ fn share_known_part(instances: &[InstanceReport], part: GivenPart) -> Result<Giv
     }
 }
 
-/// Tells a part of what the last of these instances was given.
+/// Adds an item or a pull to the last of these instances; does nothing where there is none.
 fn add_part_to_last_instance(
     alloc: Global,
     instances: &mut Sequence<InstanceReport>,
@@ -147,7 +150,7 @@ fn add_part_to_last_instance(
     add_part_to_instance(alloc, instance, part)
 }
 
-/// Tells a part of what the last instance of a task was given.
+/// Adds an item or a pull to the last instance of a task; does nothing to a task without a try.
 fn add_part_to_task(
     alloc: Global,
     task: &mut TaskReport,
@@ -165,7 +168,7 @@ fn add_part_to_task(
     }
 }
 
-/// Tells a part of what the last instance of the last of these tasks was given.
+/// Adds an item or a pull to the last instance of the last of these tasks; does nothing where there is none.
 fn add_part_to_last_task(
     alloc: Global,
     tasks: &mut Sequence<TaskReport>,
@@ -179,7 +182,7 @@ fn add_part_to_last_task(
     add_part_to_task(alloc, task, part)
 }
 
-/// Adds a further instance to a task, where it is expanded.
+/// Adds a further instance, which ended as `ended`, to an expanded task; does nothing to any other.
 fn add_instance_to_task(
     alloc: Global,
     task: &mut TaskReport,
@@ -193,7 +196,7 @@ fn add_instance_to_task(
     }
 }
 
-/// Adds a further instance to the last of these tasks, where it is expanded.
+/// Adds a further instance, which ended as `ended`, to the last of these tasks, if it is expanded; else does nothing.
 fn add_instance_to_last_task(
     alloc: Global,
     tasks: &mut Sequence<TaskReport>,
@@ -207,7 +210,7 @@ fn add_instance_to_last_task(
     add_instance_to_task(alloc, task, ended)
 }
 
-/// Tells a part of what the instance of a run that was read last was given.
+/// Adds an item or a pull to the last instance of the last task of a run; does nothing where there is none.
 fn add_part_to_run(alloc: Global, run: &mut RunReport, part: GivenPart) -> Result<(), OutOfMemory>
     ensures { OnOk result (run.new
         ≡ record run.old { tasks = at_last (told_task part) run.old.tasks }) }
@@ -215,7 +218,7 @@ fn add_part_to_run(alloc: Global, run: &mut RunReport, part: GivenPart) -> Resul
     add_part_to_last_task(alloc, &mut run.tasks, part)
 }
 
-/// Adds a further instance to the last task of a run, where it is expanded.
+/// Adds a further instance, which ended as `ended`, to the last task of a run, if it is expanded; else does nothing.
 fn add_instance_to_run(
     alloc: Global,
     run: &mut RunReport,
@@ -227,7 +230,7 @@ fn add_instance_to_run(
     add_instance_to_last_task(alloc, &mut run.tasks, ended)
 }
 
-/// Puts a task behind the others of a run.
+/// Adds a task at the end of a run.
 #[inline(always)]
 fn push_task(run: &mut RunReport, task: TaskReport) -> Result<(), OutOfMemory>
     ensures { OnOk result (run.new ≡ record run.old { tasks = run.old.tasks ++ task ∷ [] }) }
@@ -236,7 +239,7 @@ fn push_task(run: &mut RunReport, task: TaskReport) -> Result<(), OutOfMemory>
     Ok(())
 }
 
-/// A task by its first instance.
+/// The report of a task of which only the first instance was read, which ended as `first`.
 #[inline(always)]
 fn open_task_of(
     alloc: Global,
@@ -254,8 +257,8 @@ fn open_task_of(
     Ok(TaskReport::Mapped(instances))
 }
 
-/// The run whose tasks are read. A task that ran is put behind the others at once: most have one line. Contracts see it
-/// apart from the others while it stands last, since it may have more.
+/// The run whose tasks are read. A task that ran is put behind the others at once: most have one line. Contracts see
+/// it apart from the others while it stands last, since it may have more.
 #[derive(Drop)]
 pub(crate) struct OpenRun {
     run: RunReport,
@@ -277,7 +280,7 @@ impl Model for OpenRun {
 }
 
 impl OpenRun {
-    /// A run of which its own line was read.
+    /// The run of which only its own line was read.
     pub fn new(run: RunReport) -> OpenRun
         requires { run.tasks ≡ [] }
         ensures { result ≡ record { run = run; task = None } }
@@ -285,28 +288,29 @@ impl OpenRun {
         OpenRun { run }
     }
 
-    /// Whether it starts before a data interval.
+    /// Whether the run starts before a data interval.
     pub fn starts_before(&self, interval: Interval) -> bool
         ensures { result ≡ int_lt self.now.run.interval.start.nanosecond interval.start.nanosecond }
     {
         self.run.interval.start < interval.start
     }
 
-    /// How many tasks were read.
+    /// How many tasks of the run were read.
     pub fn task_count(&self) -> usize
         ensures { result ≡ task_count_of self.now }
     {
         self.run.tasks.len()
     }
 
-    /// Puts a task without a try behind the others.
+    /// Adds a task without a try, for the reason `untried`, at the end.
     pub fn add_untried_task(&mut self, untried: Untried) -> Result<(), OutOfMemory>
         ensures { OnOk result (put_task (Some self.old) (never_report untried) ≡ Some self.new) }
     {
         push_task(&mut self.run, untried.report())
     }
 
-    /// Puts a task behind the others that may have more lines.
+    /// Adds a task by its first instance, which ended as `first`, at the end; an expanded one may have further
+    /// instances.
     #[inline(always)]
     pub fn add_open_task(
         &mut self,
@@ -320,7 +324,7 @@ impl OpenRun {
         push_task(&mut self.run, open_task_of(alloc, is_expanded, first)?)
     }
 
-    /// The task that stands last.
+    /// The task that was read last; None before the first.
     fn last(&self) -> Option<&TaskReport>
         ensures some { IfSome result (λ task. open_by task.now ≡ self.now.task) }
         ensures none { IfNone result (self.now.task ≡ None) }
@@ -328,7 +332,7 @@ impl OpenRun {
         self.run.tasks.as_slice().last()
     }
 
-    /// Whether the instance that was read last has its item, where the version tells one.
+    /// Whether the instance that was read last has its item; true where it needs none, or no task was read.
     pub fn has_its_item(&self, version: Version) -> bool
         ensures { result ≡ is_given_task version self.now.task }
     {
@@ -338,7 +342,7 @@ impl OpenRun {
         }
     }
 
-    /// Whether an instance with this index is the next of the task that may have more.
+    /// Whether an instance with this map index is the next of the task read last; false where that isn't expanded.
     pub fn is_next_instance(&self, index: u32) -> bool
         ensures { result ≡ is_further_task self.now.task index }
     {
@@ -348,7 +352,7 @@ impl OpenRun {
         }
     }
 
-    /// Adds a further instance of an expanded task.
+    /// Adds a further instance, which ended as `ended`, to the task that was read last, which is expanded.
     pub fn add_instance(&mut self, alloc: Global, ended: TaskResult) -> Result<(), OutOfMemory>
         requires { (index : ℕ) × (is_further_task self.old.task index ≡ true) }
         ensures { OnOk result (put_further (Some self.old) ended ≡ Some self.new) }
@@ -356,7 +360,7 @@ impl OpenRun {
         add_instance_to_run(alloc, &mut self.run, ended)
     }
 
-    /// Whether a part of what the instance that was read last was given may stand next.
+    /// Whether an item or a pull may be next, as one of the instance read last; false where there is none.
     pub fn may_take_part(&self, version: Version, part: &GivenPart) -> bool
         ensures { result ≡ takes_task version self.now.task part.now }
     {
@@ -366,14 +370,14 @@ impl OpenRun {
         }
     }
 
-    /// Adds a part of what the instance that was read last was given.
+    /// Adds an item or a pull to the instance that was read last; does nothing where there is none.
     pub fn add_part(&mut self, alloc: Global, part: GivenPart) -> Result<(), OutOfMemory>
         ensures { OnOk result (put_part (Some self.old) part ≡ Some self.new) }
     {
         add_part_to_run(alloc, &mut self.run, part)
     }
 
-    /// Gives the run up.
+    /// The run, once it has no more lines.
     pub fn into_run(self) -> RunReport
         ensures { result ≡ closed self }
     {

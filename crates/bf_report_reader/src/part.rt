@@ -25,11 +25,12 @@ pub(crate) enum GivenPart {
 /// How deep the lists of a pulled value may nest: it may be the list of what an expanded task's instances pushed.
 const DEEPEST_PULLED: usize = DEEPEST + 1;
 
-/// How many bytes the text of a pulled value may have: that of a list of pushed values, each with a comma or a bracket
-/// behind it, and the bracket before them.
+/// How many bytes the text of a pulled value may have: that of a list of pushed values, each with a comma or a
+/// bracket behind it, and the bracket before them.
 const LONGEST_PULLED: usize = MOST_ITEMS * (LONGEST_VALUE + 1) + 1;
 
-/// The value that has this compact JSON text, of at most so many bytes and with lists at most so deep.
+/// The value whose compact JSON a text is, of at most `longest` bytes and with lists at most `deepest` deep; None for
+/// any other text.
 fn bounded_value_in(
     alloc: Global,
     text: &[u8],
@@ -52,7 +53,7 @@ fn bounded_value_in(
     }
 }
 
-/// The item that a line tells.
+/// The item that a line says after `@item `, as compact JSON; None for any other text.
 pub(crate) fn item_in(alloc: Global, text: &[u8]) -> Result<Option<Xval>, OutOfMemory>
     ensures some { IfOk result (λ o. IfSome o (Spells IsToldItem json_of text.now)) }
     ensures every { IfOk result (Finds (Spells IsToldItem json_of text.now)) }
@@ -60,7 +61,7 @@ pub(crate) fn item_in(alloc: Global, text: &[u8]) -> Result<Option<Xval>, OutOfM
     bounded_value_in(alloc, text, DEEPEST, LONGEST_VALUE)
 }
 
-/// What was pulled, a value or nothing.
+/// The value that a field says was pulled: `Some(None)` for `-`, nothing. None for `null`, and for any other text.
 fn pulled_in(alloc: Global, text: &[u8]) -> Result<Option<Option<Xval>>, OutOfMemory>
     ensures some { IfOk result (λ o. IfSome o (Spells IsToldPulled pulled_word text.now)) }
     ensures every { IfOk result (Finds (Spells IsToldPulled pulled_word text.now)) }
@@ -74,7 +75,7 @@ fn pulled_in(alloc: Global, text: &[u8]) -> Result<Option<Option<Xval>>, OutOfMe
     }
 }
 
-/// The pull that a line tells.
+/// The pull that a line says after `@pull `, a task's id and a value or `-`; None for any other text.
 pub(crate) fn pull_in(alloc: Global, text: &[u8]) -> Result<Option<Pull>, OutOfMemory>
     ensures some { IfOk result (λ o. IfSome o (Spells IsToldPull pull_words text.now)) }
     ensures every { IfOk result (Finds (Spells IsToldPull pull_words text.now)) }

@@ -29,8 +29,7 @@ use bf_report::{Report, RunReport, Version};
 use bf_value::{OutOfMemory, Sequence, Text};
 use std::alloc::Global;
 
-/// The bytes of a device, the line that was read last, and its number. Most lines are held whole, and lent from there;
-/// one that comes in pieces is put together.
+/// The bytes of a device, and the line that was read last: lent where it is held whole, and else put together.
 #[derive(Drop)]
 struct Lines {
     held: ReadBuffer,
@@ -52,7 +51,7 @@ impl Lines {
         })
     }
 
-    /// Reads the next line.
+    /// Reads the next line off the device; `TooLong` for a longer one than may be, `Truncated` without a line feed.
     fn read<R: Read>(&mut self, device: &mut R) -> Result<(), ReportFault>
         requires { self.old.number < 300_000_000_000 }
         ensures line { OnOk result (Consumes (ahead self.old.held (R.left device.old))
@@ -84,7 +83,6 @@ impl Lines {
         }
     }
 
-    /// The line that was read last.
     fn line(&self) -> &[u8]
         ensures { result.now ≡ line_in self.now }
     {
@@ -96,7 +94,7 @@ impl Lines {
     }
 }
 
-/// What stands behind a word and a space.
+/// What is in a text after this word and a space; None where the text begins otherwise.
 fn after_word<'a>(text: &'a [u8], word: &[u8]) -> Option<&'a [u8]>
     ensures some { IfSome result (λ rest. text.now ≡ word.now ++ 32 ∷ rest.now) }
     ensures none { IfNone result (IsWord word.now →
@@ -106,7 +104,7 @@ fn after_word<'a>(text: &'a [u8], word: &[u8]) -> Option<&'a [u8]>
     if first == word { Some(rest) } else { None }
 }
 
-/// The version that a word says.
+/// The version that the word `1` or `2` of the first line says; None for any other word.
 fn version_in(word: &[u8]) -> Option<Version>
     ensures some { IfSome result (λ version. word.now ≡ version_word_of version) }
     ensures every { Finds (λ version. word.now ≡ version_word_of version) result }
@@ -118,7 +116,7 @@ fn version_in(word: &[u8]) -> Option<Version>
     }
 }
 
-/// The version and the dag id that the first line says.
+/// The version and the dag id that the first line `@backfill VERSION ID` says; None for any other line.
 fn head_in(alloc: Global, line: &[u8]) -> Result<Option<(Version, Text)>, OutOfMemory>
     ensures some { IfOk result (λ o. IfSome o (SaysHead line.now)) }
     ensures every { IfOk result (Finds (SaysHead line.now)) }
@@ -147,12 +145,14 @@ enum Step {
     Refused,
 }
 
-fn step_of(taken: bool) -> Step
+/// `Taken` for a line that was added to the report, and else `Refused`.
+fn taken_or_refused(taken: bool) -> Step
     ensures { result ≡ (if taken then Step.Taken else Step.Refused) }
 {
     if taken { Step::Taken } else { Step::Refused }
 }
 
+/// Adds the run that a line says after `@run `; `Refused` where it says none, or the run may not be next.
 fn read_run(alloc: Global, beginning: &mut ReportSoFar, text: &[u8]) -> Result<Step, OutOfMemory>
     requires counted { IsCounted beginning.old }
     requires small { IsSmall beginning.old }
@@ -168,9 +168,10 @@ fn read_run(alloc: Global, beginning: &mut ReportSoFar, text: &[u8]) -> Result<S
         state,
         tasks: Sequence::from_vec(Vec::with_capacity(alloc, beginning.tasks.len())?),
     };
-    Ok(step_of(beginning.add_run(run)?))
+    Ok(taken_or_refused(beginning.add_run(run)?))
 }
 
+/// Adds what the line of the task `id` says in `text`, after the id; `Refused` where that may not be next.
 fn read_task(
     alloc: Global,
     beginning: &mut ReportSoFar,
@@ -183,11 +184,12 @@ fn read_task(
     ensures { IfOk result (λ step. EntrySteps step beginning.old id.now text.now beginning.new) }
 {
     match entry_in(alloc, text)? {
-        Some(entry) => Ok(step_of(beginning.add_entry(alloc, id, entry)?)),
+        Some(entry) => Ok(taken_or_refused(beginning.add_entry(alloc, id, entry)?)),
         None => Ok(Step::Refused),
     }
 }
 
+/// Adds the item that a line says after `@item `; `Refused` where it says none, or the item may not be next.
 fn read_item(alloc: Global, beginning: &mut ReportSoFar, text: &[u8]) -> Result<Step, OutOfMemory>
     requires counted { IsCounted beginning.old }
     requires small { IsSmall beginning.old }
@@ -196,11 +198,12 @@ fn read_item(alloc: Global, beginning: &mut ReportSoFar, text: &[u8]) -> Result<
         Steps step beginning.old (codes "@item" ++ 32 ∷ text.now) beginning.new) }
 {
     match item_in(alloc, text)? {
-        Some(item) => Ok(step_of(beginning.add_part(alloc, GivenPart::Item(item))?)),
+        Some(item) => Ok(taken_or_refused(beginning.add_part(alloc, GivenPart::Item(item))?)),
         None => Ok(Step::Refused),
     }
 }
 
+/// Adds the pull that a line says after `@pull `; `Refused` where it says none, or the pull may not be next.
 fn read_pull(alloc: Global, beginning: &mut ReportSoFar, text: &[u8]) -> Result<Step, OutOfMemory>
     requires counted { IsCounted beginning.old }
     requires small { IsSmall beginning.old }
@@ -209,12 +212,12 @@ fn read_pull(alloc: Global, beginning: &mut ReportSoFar, text: &[u8]) -> Result<
         Steps step beginning.old (codes "@pull" ++ 32 ∷ text.now) beginning.new) }
 {
     match pull_in(alloc, text)? {
-        Some(pull) => Ok(step_of(beginning.add_part(alloc, GivenPart::Pull(pull))?)),
+        Some(pull) => Ok(taken_or_refused(beginning.add_part(alloc, GivenPart::Pull(pull))?)),
         None => Ok(Step::Refused),
     }
 }
 
-/// Whether the report may end here, with this number of runs.
+/// `End` where the report is whole and has as many runs as `text`, after `@end `, says; else `Refused`.
 fn read_end(beginning: &ReportSoFar, text: &[u8]) -> Step
     requires ruled { IsRuled beginning.now }
     ensures { EndsBy result beginning.now text.now }
@@ -225,7 +228,7 @@ fn read_end(beginning: &ReportSoFar, text: &[u8]) -> Step
     }
 }
 
-/// Adds what a line says to the report, where it may stand next.
+/// Adds what a line after the head says to the report; `Refused` where it says nothing, or may not be next.
 fn read_line(alloc: Global, beginning: &mut ReportSoFar, line: &[u8]) -> Result<Step, OutOfMemory>
     requires counted { IsCounted beginning.old }
     requires small { IsSmall beginning.old }
@@ -250,7 +253,7 @@ fn read_line(alloc: Global, beginning: &mut ReportSoFar, line: &[u8]) -> Result<
     read_task(alloc, beginning, first, text)
 }
 
-/// Reads the lines behind the head, up to the end.
+/// Reads the lines after the head off the device, up to the `@end` line; `BadLine` for one that may not be next.
 fn read_lines<R: Read>(
     alloc: Global,
     lines: &mut Lines,
@@ -288,7 +291,7 @@ fn read_lines<R: Read>(
     }
 }
 
-/// Reads the head, which is the first line.
+/// Reads the head, the first line, off the device; `BadLine(1)` for any other line.
 fn read_head<R: Read>(
     alloc: Global,
     lines: &mut Lines,
@@ -320,7 +323,7 @@ fn read_head<R: Read>(
     }
 }
 
-/// Reads what stands behind the head, up to the last byte.
+/// Reads what follows the head off the device, to its last byte; `BadLine` also for bytes after the `@end` line.
 fn read_rest<R: Read>(
     alloc: Global,
     lines: &mut Lines,
@@ -354,7 +357,7 @@ fn read_rest<R: Read>(
     Ok(())
 }
 
-/// Reads a report of which nothing was read yet, up to the last byte.
+/// Reads a whole report off the device, up to its last byte.
 fn read_all<R: Read>(
     alloc: Global,
     lines: &mut Lines,
@@ -378,7 +381,7 @@ fn read_all<R: Read>(
     Ok(beginning.into_report(alloc)?)
 }
 
-/// Reads a report of either version from a device, up to its last byte. After a fault what was read is lost.
+/// Reads a whole report, of either version, off a device up to its last byte. After a fault what was read is lost.
 pub fn read_report<R: Read>(alloc: Global, device: &mut R) -> Result<Report, ReportFault>
     ensures ok { IfOk result (λ report.
         IfSome (R.left device.old) (λ bytes. bytes ≡ report_text report)) }

@@ -10,7 +10,7 @@ use bf_value::{LineFault, OutOfMemory, Xval, read_line, text_of};
 use bf_xcom::Outcome;
 use std::alloc::Global;
 
-/// A value, where a text is its own.
+/// The value, where the text is its compact JSON; None where it is spelled otherwise.
 pub(crate) fn value_if_spelled(
     alloc: Global,
     text: &[u8],
@@ -27,7 +27,7 @@ pub(crate) fn value_if_spelled(
     }
 }
 
-/// The value that has this compact JSON text.
+/// The value whose compact JSON a text is, `null` aside; None for any other text, and past `LONGEST_VALUE` bytes.
 fn value_in(alloc: Global, text: &[u8]) -> Result<Option<Xval>, OutOfMemory>
     ensures some { IfOk result (λ o. IfSome o (Spells IsShownValue json_of text.now)) }
     ensures every { IfOk result (Finds (Spells IsShownValue json_of text.now)) }
@@ -42,7 +42,8 @@ fn value_in(alloc: Global, text: &[u8]) -> Result<Option<Xval>, OutOfMemory>
     }
 }
 
-/// How an instance ended that pushed nothing.
+/// How an instance ended that pushed nothing, by the word of its state: `success`, `failed` or `skipped`; None for
+/// any other.
 fn bare_outcome_in(state: &[u8]) -> Option<Outcome>
     ensures some { IfSome result (SaysOutcome state.now (codes "-")) }
     ensures every { Finds (SaysOutcome state.now (codes "-")) result }
@@ -58,7 +59,7 @@ fn bare_outcome_in(state: &[u8]) -> Option<Outcome>
     }
 }
 
-/// How an instance ended that pushed a value.
+/// The success of an instance that pushed the value in this field; None where the field spells no value.
 fn pushing_outcome_in(alloc: Global, value: &[u8]) -> Result<Option<Outcome>, OutOfMemory>
     ensures some { IfOk result (λ o. IfSome o (SaysOutcome (codes "success") value.now)) }
     ensures every { IfOk result (λ o.
@@ -70,7 +71,8 @@ fn pushing_outcome_in(alloc: Global, value: &[u8]) -> Result<Option<Outcome>, Ou
     }
 }
 
-/// How an instance ended, by its state and what it pushed.
+/// How an instance ended, by the word of its state and the field of what it pushed, `-` for nothing; None where they
+/// don't fit, as a value to `failed`.
 pub(crate) fn outcome_in(
     alloc: Global,
     state: &[u8],

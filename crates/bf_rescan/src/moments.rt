@@ -8,7 +8,8 @@ ghost use Rattle.bf_rescan.specs.inner.Looks.{IsSoonest, IsTryAt, IsTryBefore, I
 use bf_core::{Core, Instance, Phase, name_of};
 use bf_waiting::{earlier_moment, instances_of};
 
-/// The later moment for which the instance at a place waits.
+/// The moment for which the instance at `place`, from 0, of a task in a run waits, where that is later than what the
+/// clock shows; None where it waits for none.
 fn moment_at(core: &Core<'_>, run: u32, task: u32, place: usize, instance: &Instance) -> Option<i64>
     requires few { place ≤ 1_024 }
     requires held { instance_of (cell_at core.now.state run task) place ≡ Some instance.now }
@@ -21,7 +22,7 @@ fn moment_at(core: &Core<'_>, run: u32, task: u32, place: usize, instance: &Inst
     core.later_moment_of(name_of(core.plan().dag(), run, task, place, instance.attempt))
 }
 
-/// The least of the later moments for which the instances of a task wait.
+/// The least of the later moments for which the instances of a task in a run wait; None where none waits for one.
 fn earliest_moment_of_task(core: &Core<'_>, run: u32, task: u32) -> Option<i64>
     requires { IsThere core.now.dag core.now.state run task }
     ensures { IsSoonest core.now (IsTryOf run task) result }
@@ -37,7 +38,8 @@ fn earliest_moment_of_task(core: &Core<'_>, run: u32, task: u32) -> Option<i64>
     soonest
 }
 
-/// The least of the later moments of the earlier runs and of this one.
+/// The least of the later moments for which tries of this run and of the runs before wait; `earlier` is that of the
+/// runs before, None where none of them waits for one.
 fn earliest_moment_up_to_run(core: &Core<'_>, run: u32, earlier: Option<i64>) -> Option<i64>
     requires run { run < length core.now.state.runs }
     requires earlier { IsSoonest core.now (IsTryBefore run 0) earlier }
@@ -52,7 +54,7 @@ fn earliest_moment_up_to_run(core: &Core<'_>, run: u32, earlier: Option<i64>) ->
 }
 
 /// The least of the later moments for which tries wait, in seconds since 1970: at it one of them may begin, as far as
-/// the clock goes.
+/// the clock goes. None where none waits for one.
 pub fn next_moment(core: &Core<'_>) -> Option<i64>
     ensures { IsNextMoment core.now result }
 {

@@ -9,7 +9,8 @@ use bf_core::{Core, Instance, name_of};
 use bf_value::JobName;
 use bf_waiting::{instances_of, weight_of};
 
-/// The second try where it weighs more, else the first.
+/// The try `found` where its task weighs more than that of `best`, else `best`; where one is missing, the other.
+/// `weights` has the total weight of each task.
 fn weightier_try(weights: &[u32], best: Option<JobName>, found: Option<JobName>) -> Option<JobName>
     ensures { result ≡ weightier_try_of weights.now best found }
 {
@@ -26,7 +27,7 @@ fn weightier_try(weights: &[u32], best: Option<JobName>, found: Option<JobName>)
     }
 }
 
-/// The present try of the instance at a place, where it may begin.
+/// The present try of the instance at `place`, from 0, of a task in a run; None where it may not begin now.
 fn try_at(
     core: &Core<'_>,
     run: u32,
@@ -47,7 +48,7 @@ fn try_at(
     }
 }
 
-/// The first try of a task in a run that may begin.
+/// The first try of a task in a run that may begin now, by map index; None where none may.
 fn first_try_of_task(core: &Core<'_>, run: u32, task: u32) -> Option<JobName>
     requires { IsThere core.now.dag core.now.state run task }
     ensures { IsBest core.now (IsTryOf run task) result }
@@ -64,7 +65,8 @@ fn first_try_of_task(core: &Core<'_>, run: u32, task: u32) -> Option<JobName>
     None
 }
 
-/// The best try of the earlier runs and of this one.
+/// The first try of the greatest weight of those that may begin in this run and the runs before; `earlier` is that of
+/// the runs before. `weights` has the total weight of each task.
 fn best_try_up_to_run(
     core: &Core<'_>,
     weights: &[u32],
@@ -84,8 +86,9 @@ fn best_try_up_to_run(
     best
 }
 
-/// The try that begins next: of those that may begin now the one of the greatest total weight, and of several the first
-/// by run, in the order of the file and by map index. `weights` has the total weight of each task.
+/// The try that begins next: of those that may begin now the one of the greatest total weight, and of several the
+/// first by run, in the order of the file and by map index; None where none may. `weights` has the total weight of
+/// each task.
 pub fn next_try(core: &Core<'_>, weights: &[u32]) -> Option<JobName>
     requires weights { AreWeights core.now.dag core.now.limits weights.now }
     ensures { IsNextTry core.now result }

@@ -12,7 +12,7 @@ use bf_value::OutOfMemory;
 use bf_why::{States, has_instance_in, is_foreign};
 use std::alloc::Global;
 
-/// Whether a task has a try.
+/// Whether a report has a task as one that ran, as one instance or expanded.
 pub fn is_tried(told: &Settled<'_>) -> bool
     ensures { result ≡ is_tried_in told.now }
 {
@@ -22,7 +22,7 @@ pub fn is_tried(told: &Settled<'_>) -> bool
     )
 }
 
-/// How a task that ran ended, where something began there.
+/// What began at a task that ran: Failed where an instance failed, else Exited where one was skipped, and else None.
 fn began_by_end(settled: &[Settled<'_>], task: u32) -> Option<Began>
     ensures { result ≡ began_by_end_in settled.now task }
 {
@@ -35,6 +35,8 @@ fn began_by_end(settled: &[Settled<'_>], task: u32) -> Option<Began>
     }
 }
 
+/// What began at a task: `began` where it is given, else by how the task ended where it was tried; None where nothing
+/// began.
 fn began_at(settled: &[Settled<'_>], task: u32, began: Option<Began>) -> Option<Began>
     ensures { result ≡ began_in settled.now task began }
 {
@@ -45,7 +47,7 @@ fn began_at(settled: &[Settled<'_>], task: u32, began: Option<Began>) -> Option<
     }
 }
 
-/// Adds the root that is at a place, if one is.
+/// Adds the root of a step's task and run to `roots`, where something began at that task.
 pub(crate) fn add_root(
     roots: &mut Vec<Root>,
     settled: &[Settled<'_>],
@@ -63,7 +65,7 @@ pub(crate) fn add_root(
     Ok(())
 }
 
-/// Whether a rule skips a task where an upstream is skipped.
+/// Whether a trigger rule may skip a task because an upstream is skipped.
 fn skips_for_skipped(rule: Rule) -> bool
     ensures { result ≡ skips_for_skipped_in rule }
 {
@@ -73,6 +75,7 @@ fn skips_for_skipped(rule: Rule) -> bool
     )
 }
 
+/// A list of this one task; the empty list for None.
 fn tasks_of_option(alloc: Global, task: Option<u32>) -> Result<Vec<u32>, OutOfMemory>
     ensures { IfOk result (λ tasks. tasks.items ≡ tasks_of_option_of task) }
 {
@@ -83,6 +86,7 @@ fn tasks_of_option(alloc: Global, task: Option<u32>) -> Result<Vec<u32>, OutOfMe
     Ok(tasks)
 }
 
+/// The skipped upstreams of a task whose rule skips it for them; none under another rule.
 fn skipped_upstreams(
     alloc: Global,
     settled: &[Settled<'_>],
@@ -98,7 +102,7 @@ fn skipped_upstreams(
     }
 }
 
-/// The tasks that made the state of a task so, by its cause.
+/// The tasks that made the state of a task what it is, by its cause; none where the cause is that it waits or runs.
 fn next_tasks(
     alloc: Global,
     plan: &Plan,
@@ -125,6 +129,7 @@ fn next_tasks(
     }
 }
 
+/// The run of the walk's next step: the run before `run` where the cause is the past, and else `run`.
 fn next_run(run: u32, cause: StateCause) -> u32
     ensures { result ≡ next_run_of run cause }
 {
@@ -134,7 +139,7 @@ fn next_run(run: u32, cause: StateCause) -> u32
     }
 }
 
-/// What began where the walk ends for this cause.
+/// What began at the tasks to which this cause leads, where that ends the walk; None where the walk looks at them.
 fn began_by_cause(cause: StateCause) -> Option<Began>
     ensures { result ≡ began_by_cause_in cause }
 {
@@ -145,6 +150,8 @@ fn began_by_cause(cause: StateCause) -> Option<Began>
     }
 }
 
+/// The walk's steps to these tasks from a task in `run`, in their order. The cause gives their run and what began at
+/// them.
 fn steps_to(
     alloc: Global,
     run: u32,
@@ -163,13 +170,16 @@ fn steps_to(
     Ok(steps)
 }
 
+/// Whether the walk goes on from a task: it has no try, and what the report has of it, `told`, follows from the
+/// cause.
 fn goes_on(is_expanded: bool, cause: StateCause, told: &Settled<'_>) -> bool
     ensures { result ≡ goes_on_in is_expanded cause told.now }
 {
     !is_tried(told) && !is_foreign(is_expanded, cause, told)
 }
 
-/// From a task that the report has so, of which this is the cause.
+/// The walk's steps onward from a task that the report has as `told`, for this cause; none where the task was tried
+/// or its state doesn't follow from the cause.
 fn steps_for_cause(
     alloc: Global,
     plan: &Plan,
@@ -191,6 +201,8 @@ fn steps_for_cause(
     }
 }
 
+/// The walk's steps onward from a task in `run`; none where there is no such task. `settled` are the tasks of the run
+/// and `before` those of the run before, none for the first.
 fn steps_from(
     alloc: Global,
     plan: &Plan,
@@ -213,7 +225,8 @@ fn steps_from(
     }
 }
 
-/// Where the walk goes on, by what a report has of the tasks of the run and of the run before.
+/// The walk's steps onward from a step; none where something is given to have begun at it. `settled` are the tasks of
+/// its run and `before` those of the run before, none for the first.
 pub(crate) fn steps_onward(
     alloc: Global,
     plan: &Plan,

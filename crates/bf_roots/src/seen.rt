@@ -5,7 +5,7 @@ ghost use Rattle.bf_roots.specs.Walks.{is_seen_in, nothing_seen, with_seen};
 use bf_value::{OutOfMemory, Sequence};
 use std::alloc::Global;
 
-/// For each of so many runs a mark for each of so many tasks, of which none is seen.
+/// A row of `tasks` flags for each of `runs` runs, none of them set.
 pub(crate) fn unseen_rows(
     alloc: Global,
     runs: usize,
@@ -20,7 +20,7 @@ pub(crate) fn unseen_rows(
     Ok(seen)
 }
 
-/// Whether a task in a run is seen, as is each that isn't there.
+/// Whether a task in a run is seen; true where there is no such task or run.
 pub(crate) fn is_seen(seen: &[Sequence<bool>], run: u32, task: u32) -> bool
     ensures { result ≡ is_seen_in seen.now run task }
 {
@@ -30,6 +30,7 @@ pub(crate) fn is_seen(seen: &[Sequence<bool>], run: u32, task: u32) -> bool
     }
 }
 
+/// Whether a task is seen in the row of its run; true where there is no such task.
 fn is_seen_in(row: &[bool], task: u32) -> bool
     ensures { result ≡ slice_index_or row.now task true }
 {
@@ -39,7 +40,7 @@ fn is_seen_in(row: &[bool], task: u32) -> bool
     }
 }
 
-/// Marks a task in a run.
+/// Marks a task in a run as seen. Both are in `seen`.
 pub(crate) fn mark_seen(seen: &mut Vec<Sequence<bool>>, run: u32, task: u32)
     requires { is_seen_in seen.old.items run task ≡ false }
     ensures { seen.new.items ≡ with_seen seen.old.items run task }

@@ -1,6 +1,6 @@
 //! Steps of the walk, and what is found on it.
 
-/// What came of a task in a run where something began.
+/// What began at a task in a run, by how the task ended or what it pushed.
 #[derive(Clone, Copy, Debug, PartialEq, Eq)]
 pub enum Began {
     /// An instance of it failed.
@@ -13,7 +13,7 @@ pub enum Began {
     PushedNoItems,
 }
 
-/// A task in a run, by their numbers, where something began.
+/// A task in a run, by their numbers, at which something began.
 #[derive(Clone, Copy, Debug, PartialEq, Eq)]
 pub struct Root {
     pub run: u32,
@@ -21,7 +21,8 @@ pub struct Root {
     pub began: Began,
 }
 
-/// A task in a run that is come to. With what began there the walk ends there; else it looks at what came of the task.
+/// A task in a run, by their numbers, to which the walk comes. Where `began` is given the walk ends at it; else it
+/// looks at how the task ended.
 #[derive(Clone, Copy, Debug, PartialEq, Eq)]
 pub struct WalkStep {
     pub run: u32,

@@ -9,7 +9,7 @@ use bf_reason::{Settled, is_blocked, is_blocked_branch, is_skipping_branch};
 use bf_why::{States, has_instance_in};
 use std::alloc::{AllocError, Global};
 
-/// The branches that succeeded and don't follow a task.
+/// Those of these upstreams, in their order, that are branches which succeeded and don't follow `task`.
 pub(crate) fn branches_that_skip(
     alloc: Global,
     plan: &Plan,
@@ -28,6 +28,7 @@ pub(crate) fn branches_that_skip(
         .collect(alloc)
 }
 
+/// Those of these upstreams, in their order, that are branches without a status.
 pub(crate) fn blocked_branches(
     alloc: Global,
     dag: &Dag,
@@ -44,6 +45,7 @@ pub(crate) fn blocked_branches(
         .collect(alloc)
 }
 
+/// Those of these upstreams, in their order, that have no status.
 pub(crate) fn blocked_tasks(
     alloc: Global,
     settled: &[Settled<'_>],
@@ -59,7 +61,7 @@ pub(crate) fn blocked_tasks(
         .collect(alloc)
 }
 
-/// Those with an instance in these states.
+/// Those of these upstreams, in their order, that have an instance in one of these states.
 pub(crate) fn tasks_in_states(
     alloc: Global,
     settled: &[Settled<'_>],

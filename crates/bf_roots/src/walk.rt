@@ -21,6 +21,7 @@ struct Trail {
     found: Vec<Root>,
 }
 
+/// The step at a task in a run, where nothing is known to have begun.
 fn first_step(run: u32, task: u32) -> WalkStep
     ensures { result ≡ first_step_of run task }
 {
@@ -32,6 +33,7 @@ fn first_step(run: u32, task: u32) -> WalkStep
 }
 
 impl Trail {
+    /// A trail over `runs` runs of `tasks` tasks each, with one step left to go and nothing seen or found.
     fn new(alloc: Global, runs: usize, tasks: usize, step: WalkStep) -> Result<Trail, OutOfMemory>
         ensures seen { IfOk result (λ trail. trail.seen.items ≡ nothing_seen runs tasks) }
         ensures left { IfOk result (λ trail. trail.left.items ≡ step ∷ []) }
@@ -44,7 +46,8 @@ impl Trail {
         Ok(Trail { seen, left, found })
     }
 
-    /// Looks at a place where it hasn't been.
+    /// Visits the task of a step, which isn't seen yet: marks it as seen, adds the root where something began at it,
+    /// and puts the steps onward before those left. `window` is at the step's run.
     fn visit(
         &mut self,
         alloc: Global,
@@ -66,8 +69,9 @@ impl Trail {
     }
 }
 
-/// The roots of the state of a task in a run, in the order in which the walk finds them. Each run has the tasks of the graph, and none of
-/// these more than 1,024 instances. Takes time over the tasks of a run each time that the walk turns to one.
+/// The roots of the state of a task in a run: the tasks in runs where what made it so began, in the order in which
+/// the walk finds them. Each run has the tasks of the graph, and none of these more than 1,024 instances. Takes time
+/// over the tasks of a run each time that the walk turns to one.
 pub fn roots_of(
     alloc: Global,
     plan: &Plan,

@@ -8,6 +8,7 @@ ghost use Rattle.std.specs.List.{list_all, list_any};
 use bf_graph::Graph;
 use bf_value::Xval;
 
+/// Whether a task comes directly after a branch.
 fn is_direct_downstream(graph: &Graph, branch: u32, task: u32) -> bool
     requires { task < length graph.now.upstreams }
     ensures { result ≡ is_direct_downstream_in graph.now branch task }
@@ -18,6 +19,7 @@ fn is_direct_downstream(graph: &Graph, branch: u32, task: u32) -> bool
         .any(|upstream| *upstream == branch)
 }
 
+/// Whether this is the id of a task that comes directly after the branch.
 fn is_downstream_name(graph: &Graph, branch: u32, name: &str) -> bool
     ensures { result ≡ is_downstream_name_in graph.now branch (Some name.now) }
 {
@@ -28,6 +30,7 @@ fn is_downstream_name(graph: &Graph, branch: u32, name: &str) -> bool
     }
 }
 
+/// Whether a value is a text with the id of a task directly after the branch.
 fn is_downstream_value(graph: &Graph, branch: u32, value: &Xval) -> bool
     ensures { result ≡ is_downstream_name_in graph.now branch (name_in value.now) }
 {
@@ -37,6 +40,7 @@ fn is_downstream_value(graph: &Graph, branch: u32, value: &Xval) -> bool
     }
 }
 
+/// Whether each value is a text with the id of a task directly after the branch.
 fn are_downstream_values(graph: &Graph, branch: u32, values: &[Xval]) -> bool
     ensures { result ≡ list_all
         (λ v. is_downstream_name_in graph.now branch (name_in v)) values.now }
@@ -58,6 +62,7 @@ pub fn names_downstreams(graph: &Graph, branch: u32, value: Option<&Xval>) -> bo
     }
 }
 
+/// Whether two tasks are the same, or edges lead from the first to the second.
 fn is_or_reaches(graph: &Graph, from: u32, to: u32) -> bool
     requires from { from < length graph.now.upstreams }
     requires to { to < length graph.now.upstreams }
@@ -66,6 +71,8 @@ fn is_or_reaches(graph: &Graph, from: u32, to: u32) -> bool
     from == to || graph.reaches(from, to)
 }
 
+/// Whether a branch that names this id lets a task follow: the id is of a task directly after the branch, and
+/// the task is that one or comes after it.
 fn follows_by_name(graph: &Graph, branch: u32, name: &str, task: u32) -> bool
     requires { task < length graph.now.upstreams }
     ensures { result ≡ followed_by_name graph.now branch task (Some name.now) }
@@ -81,6 +88,8 @@ fn follows_by_name(graph: &Graph, branch: u32, name: &str, task: u32) -> bool
     }
 }
 
+/// Whether a branch that pushes this id lets a task follow: the id is of a task directly after the branch, which is
+/// `task` or which `task` comes after. False for a value that is no text.
 fn follows_by_value(graph: &Graph, branch: u32, value: &Xval, task: u32) -> bool
     requires { task < length graph.now.upstreams }
     ensures { result ≡ followed_by_name graph.now branch task (name_in value.now) }
@@ -91,6 +100,7 @@ fn follows_by_value(graph: &Graph, branch: u32, value: &Xval, task: u32) -> bool
     }
 }
 
+/// Whether a branch that pushes a list of these values lets a task follow by one of them that is an id.
 fn follows_by_values(graph: &Graph, branch: u32, values: &[Xval], task: u32) -> bool
     requires { task < length graph.now.upstreams }
     ensures { result ≡ list_any
@@ -101,6 +111,7 @@ fn follows_by_values(graph: &Graph, branch: u32, values: &[Xval], task: u32) -> 
         .any(|value| follows_by_value(graph, branch, value, task))
 }
 
+/// Whether a branch that pushes this, an id or a list of ids, lets a task follow; false for any other value.
 fn follows_by_pushed(graph: &Graph, branch: u32, value: &Xval, task: u32) -> bool
     requires { task < length graph.now.upstreams }
     ensures { result ≡ followed_at graph.now branch (Some value.now) task }
@@ -114,8 +125,8 @@ fn follows_by_pushed(graph: &Graph, branch: u32, value: &Xval, task: u32) -> boo
     }
 }
 
-/// Whether a branch that pushed this follows a task: it names the task, or another of its direct downstreams that
-/// reaches the task (Airflow's "Branching": a join of a followed path is not skipped).
+/// Whether a branch that pushed this follows a task: it names, among its direct downstreams, the task or one that
+/// reaches the task (Airflow's "Branching": a join of a followed path is not skipped). False where it pushed nothing.
 pub fn followed(graph: &Graph, branch: u32, value: Option<&Xval>, task: u32) -> bool
     requires { task < length graph.now.upstreams }
     ensures { result ≡ followed_at graph.now branch (option_map (λ v. v.now) value.entry) task }

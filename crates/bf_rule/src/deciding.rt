@@ -30,18 +30,21 @@ impl Counts {
         }
     }
 
+    /// How many failed or are upstream_failed.
     fn failures(&self) -> u64
         ensures { result ≡ failures_of self.now }
     {
         u64::from(self.failed) + u64::from(self.upstream_failed)
     }
 
+    /// How many have an end, be it skipped: all but the blocked and the unfinished.
     fn finished(&self) -> u64
         ensures { result ≡ finished_of self.now }
     {
         u64::from(self.success) + self.failures() + u64::from(self.skipped)
     }
 
+    /// How many there are, in whatever state.
     fn total(&self) -> u64
         ensures { result ≡ total_of self.now }
     {
@@ -49,7 +52,9 @@ impl Counts {
     }
 }
 
-/// Whether a rule finds what it looks for among these, whatever comes of others.
+/// Whether these instances alone let a task of the rule run, whatever comes of others: by one success
+/// (`one_success`), one that failed or is upstream_failed (`one_failed`), one success or failure (`one_done`), in any
+/// case (`always`).
 pub fn is_rule_met(rule: Rule, counts: &Counts) -> bool
     ensures { result ≡ is_rule_met_in rule counts.now }
 {
@@ -62,12 +67,15 @@ pub fn is_rule_met(rule: Rule, counts: &Counts) -> bool
     }
 }
 
+/// The verdict to run where `runs`, and else the other one.
 fn run_if(runs: bool, otherwise: Verdict) -> Verdict
     ensures { result ≡ (if runs then Verdict.Run else otherwise) }
 {
     if runs { Verdict::Run } else { otherwise }
 }
 
+/// What the table of docs/SPECIFICATION.md says of a rule once all instances of the upstreams have finished, and none
+/// is blocked.
 fn verdict_by_table(rule: Rule, counts: &Counts) -> Verdict
     ensures { result ≡ verdict_by_table_of rule counts.now }
 {

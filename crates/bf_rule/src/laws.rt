@@ -9,14 +9,14 @@ ghost use Rattle.bf_rule.specs.declared.rule.Verdict.TheVariants.{Wait};
 
 use bf_graph::Graph;
 
-/// A verdict other than `Wait` stays, whatever finishes later.
+/// A law: a verdict other than `Wait` stays, whatever finishes later.
 pub fn verdicts_stay()
     ensures { (rule : Rule) (earlier later : Counts) → IsLater earlier later →
         verdict_of rule earlier ≢ Wait → verdict_of rule earlier ≡ verdict_of rule later }
 {}
 
-/// In every graph a branch's value follows just the tasks that it names and those that these reach: no path is longer
-/// than `followed` looks.
+/// A law: in every graph a branch's value follows just the tasks that it names and those that these reach. No path
+/// is longer than `followed` looks.
 pub fn followed_tasks_are_named_or_reached(graph: &Graph)
     ensures { (branch : ℕ) (value : Option Xval) (task : ℕ) →
         (followed_at graph.now branch value task ≡ true)

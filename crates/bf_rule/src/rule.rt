@@ -20,7 +20,7 @@ pub enum Rule {
 }
 
 impl Rule {
-    /// The rule of a name, as Airflow writes it: `all_success`.
+    /// The rule of a name, as Airflow writes it: `all_success`; nothing where no rule has the name.
     pub fn named(name: &str) -> Option<Rule>
         ensures { result ≡ rule_named name.now }
     {

@@ -50,7 +50,7 @@ impl<'a> Model for Ready<'a> {
     ghost invariant = { λ r. IsUpToDate r.core r.due × KeepsTries r.core r.waiting };
 }
 
-/// The event that came last.
+/// The event that came last, if any came.
 fn last_event<'c>(core: &'c Core<'_>) -> Option<&'c Event>
     ensures { (b : Backfill) (e : Event) → core.now ≡ moved b e → option_copied result
         ≡ Some e }
@@ -59,7 +59,7 @@ fn last_event<'c>(core: &'c Core<'_>) -> Option<&'c Event>
 }
 
 impl<'a> Ready<'a> {
-    /// Of a backfill as far as it has come.
+    /// What may come next in a backfill, as far as that has come.
     pub fn new(alloc: Global, core: Core<'a>) -> Result<Ready<'a>, OutOfMemory>
         ensures { IfOk result (λ ready. ready ≡ core.entry) }
     {
@@ -68,7 +68,7 @@ impl<'a> Ready<'a> {
         Ok(Ready { core, due, waiting })
     }
 
-    /// The backfill.
+    /// The backfill as far as it has come.
     pub fn core(&self) -> &Core<'a>
         ensures { result.now ≡ self.now }
     {
@@ -104,28 +104,29 @@ impl<'a> Ready<'a> {
         Ok(())
     }
 
-    /// The first step that may come by itself: a close, an open, a settle or an expand.
+    /// The first step that may come by itself: a close, an open, a settle or an expand; None where none may come.
     pub fn next_step(&self) -> Option<Event>
         ensures { IsNextStep self.now result }
     {
         self.due.next_step()
     }
 
-    /// Of the tries that may begin now the one of the greatest total weight, and of several the first.
+    /// The try that begins next: of those that may begin now, the first one of the greatest total weight; None where
+    /// none may begin now.
     pub fn next_try(&self) -> Option<JobName>
         ensures { IsNextTry self.now result }
     {
         self.waiting.next_try(&self.core)
     }
 
-    /// The least of the later moments for which tries wait, in seconds since 1970.
+    /// The least of the later moments for which tries wait, in seconds since 1970; None where none waits for one.
     pub fn next_moment(&self) -> Option<i64>
         ensures { IsNextMoment self.now result }
     {
         self.waiting.next_moment()
     }
 
-    /// What the backfill came to, where it has ended; else it is handed back.
+    /// What the backfill came to, where it has ended; else the backfill with its queues is handed back.
     pub fn into_ended(self) -> Result<Ended<'a>, Ready<'a>>
         ensures ok { IfOk result (λ ended. ended ≡ ending_of self.entry ended.run_states) }
         ensures closed { OnOk result (HasEnded self.entry.state) }

@@ -53,7 +53,7 @@ impl<'a> Model for Scheduler<'a> {
     ghost invariant = { λ s. IsScheduler s.ready s.workers s.running };
 }
 
-/// Lets an event come that may come, so that nothing but want of memory is in its way.
+/// Lets an event come that may come now: only memory can be wanting.
 fn apply_allowed(ready: &mut Ready<'_>, event: Event) -> Result<(), OutOfMemory>
     requires { MayCome ready.old event }
     ensures ok { OnOk result (ready.new ≡ moved ready.old event) }
@@ -66,7 +66,8 @@ fn apply_allowed(ready: &mut Ready<'_>, event: Event) -> Result<(), OutOfMemory>
     }
 }
 
-/// Lets the clock come to a moment, and says whether it may.
+/// Moves the clock to a moment, in seconds since 1970. False, and nothing moved, where that isn't later than what it
+/// shows, or is past `LAST_MOMENT`.
 fn try_tick(ready: &mut Ready<'_>, moment: i64) -> Result<bool, OutOfMemory>
     ensures ok { IfOk result (λ came. HasComeTo ready.old moment came ready.new) }
     ensures same { OnErr result (ready.new ≡ ready.old) }
@@ -78,7 +79,7 @@ fn try_tick(ready: &mut Ready<'_>, moment: i64) -> Result<bool, OutOfMemory>
     }
 }
 
-/// Begins a try that may begin.
+/// Begins a try that may begin, and gives the ticket for its runner.
 fn begin(alloc: Global, ready: &mut Ready<'_>, name: JobName) -> Result<Ticket, OutOfMemory>
     requires { MayCome ready.old (Event.Begin name) }
     ensures ticket { IfOk result (λ ticket. IsTicketOf ready.old name ticket) }
@@ -95,7 +96,8 @@ fn begin(alloc: Global, ready: &mut Ready<'_>, name: JobName) -> Result<Ticket, 
     }
 }
 
-/// The grade of an answer to a try that runs with what was given to it; else why `finish` refuses it.
+/// The grade of an answer. `Stranger` where its task isn't there, or its try runs and was given something else; that
+/// the try runs isn't required.
 fn grade_answer(alloc: Global, core: &Core<'_>, done: &Done) -> Result<Outcome, Illegal>
     ensures ok { IfOk result (λ o. (o ≡ grade_of core.now.dag done.now.name.task done.now.raw)
         × IsSameGiven core.now done.now) }
@@ -142,7 +144,7 @@ impl<'a> Scheduler<'a> {
         self.running
     }
 
-    /// The least of the later moments for which tries wait, in seconds since 1970.
+    /// The least of the later moments for which tries wait, in seconds since 1970; None where none waits for one.
     pub fn pending(&self) -> Option<i64>
         ensures { IsNextMoment self.now.backfill result }
     {
@@ -178,8 +180,8 @@ impl<'a> Scheduler<'a> {
         Ok(Next::Ended)
     }
 
-    /// Lets the clock come to a moment, in seconds since 1970: whether that is later than what it shows, and no later
-    /// than `LAST_MOMENT`.
+    /// Moves the clock to a moment, in seconds since 1970. Says whether it did: where the moment is later than what
+    /// it shows, and no later than `LAST_MOMENT`.
     pub fn tick(&mut self, moment: i64) -> Result<bool, OutOfMemory>
         ensures ok { IfOk result (λ came. HasTicked self.old moment came self.new) }
         ensures same { OnErr result (self.new ≡ self.old) }
@@ -189,7 +191,7 @@ impl<'a> Scheduler<'a> {
         Ok(came)
     }
 
-    /// Ends a try.
+    /// Ends a running try with this outcome; refused where it doesn't run, or could not end so.
     fn end(&mut self, name: JobName, outcome: Outcome) -> Result<(), Illegal>
         ensures ok { OnOk result (MayCome self.old.backfill (Event.End name outcome)
             × (self.new ≡ moved_on self.old (Event.End name outcome))) }
@@ -227,7 +229,7 @@ impl<'a> Scheduler<'a> {
         }
     }
 
-    /// Ends the try of an answer that may end so: nothing but want of memory is in its way.
+    /// Ends the try of an answer that may end so: only memory can be wanting.
     pub fn finish_allowed(&mut self, done: Done) -> Result<(), OutOfMemory>
         requires { MayFinish self.old.backfill done }
         ensures ok { OnOk result (HasFinished self.old done self.new) }

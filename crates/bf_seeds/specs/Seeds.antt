@@ -13,11 +13,11 @@ use Rattle.bf_seeds.specs.declared.fault.SeedsFault.{SeedsFault}
 use Rattle.bf_seeds.specs.declared.fault.SeedsFault.TheVariants.{BadFile, BadSeed, Unknown, OutOfMemory}
 
 -- the number of the refusal, which want of memory doesn't have
-abbrev pub fault_number : SeedsFault → Option ℕ
-fault_number BadFile = Some 45
-fault_number (BadSeed line) = Some 45
-fault_number (Unknown fault) = clearing.fault_number fault
-fault_number OutOfMemory = None
+abbrev pub refusal_number_of : SeedsFault → Option ℕ
+refusal_number_of BadFile = Some 45
+refusal_number_of (BadSeed line) = Some 45
+refusal_number_of (Unknown fault) = clearing.refusal_number_of fault
+refusal_number_of OutOfMemory = None
 
 -- why no seeds are read, as it is printed
 abbrev pub fault_text : SeedsFault → List ℕ

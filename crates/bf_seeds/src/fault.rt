@@ -1,6 +1,6 @@
 //! Why no seeds are read.
 ghost use Rattle.std.specs.Prelude.{◌≡◌};
-ghost use Rattle.bf_seeds.specs.Seeds.{fault_number};
+ghost use Rattle.bf_seeds.specs.Seeds.{refusal_number_of};
 
 use bf_dependents::ClearFault;
 use bf_value::{OutOfMemory, Text};
@@ -20,9 +20,9 @@ pub enum SeedsFault {
 }
 
 impl SeedsFault {
-    /// The number of the refusal, which want of memory doesn't have.
+    /// The number of the refusal (docs/FORMATS.md), 45 for the file and a line's form; None for want of memory.
     pub fn refusal_number(&self) -> Option<u32>
-        ensures { result ≡ fault_number self.now }
+        ensures { result ≡ refusal_number_of self.now }
     {
         match self {
             SeedsFault::BadFile | SeedsFault::BadSeed(_) => Some(45),
@@ -38,6 +38,7 @@ impl fmt::Display for SeedsFault {
 
     ghost output = { λ fault. Some (fault_text fault) };
 
+    /// Writes the words of the fault.
     fn fmt<W: fmt::Write>(&self, f: &mut fmt::Formatter<W>) -> fmt::Result {
         match self {
             SeedsFault::BadFile => write!(f, "bad seed: file"),

@@ -12,7 +12,8 @@ use std::alloc::Global;
 /// How many bytes a seeds file may have.
 pub const LONGEST_FILE: usize = 8_388_608;
 
-/// The seeds of a file of these bytes. Refused is a file that is too long or isn't UTF-8, and else what `seeds_in` refuses.
+/// The seeds that the bytes of a seeds file name, in order. `BadFile` for a file that is too long or isn't UTF-8, and
+/// else the fault of the first bad line, as of `seeds_in`.
 pub fn read_seeds(
     alloc: Global,
     plan: &Plan,

@@ -16,14 +16,15 @@ pub(crate) struct Words<'a> {
     pub index: Option<i32>,
 }
 
-/// What stands before the first space, and what behind it.
+/// What is before the first space of a text, and what after it; None where there is no space.
 fn split_at_space(text: &str) -> Option<(&str, &str)>
     ensures { option_map (λ p. (p.0.now, p.1.now)) result ≡ split_at_space_of text.now }
 {
     text.split_once(' ')
 }
 
-/// The task that a text names, and the map index.
+/// The task that a text `TASK` or `TASK INDEX` names, and its map index, None for all instances; None for any other
+/// text.
 fn task_in(text: &str) -> Option<(&str, Option<i32>)>
     ensures found { IfSome result
         (λ found. SpellsTask text.now (split_at_space_of text.now) found.0.now found.1) }
@@ -44,7 +45,7 @@ fn task_in(text: &str) -> Option<(&str, Option<i32>)>
     }
 }
 
-/// The words of a line, where it has the form of one.
+/// The run, the task and the map index that a line `RUN TASK` or `RUN TASK INDEX` names; None for any other line.
 pub(crate) fn words_in(line: &str) -> Option<Words<'_>>
     ensures found { IfSome result (λ words. SpellsSeed line.now (seed_of words)) }
     ensures none { IfNone result ((seed : Seed) → SpellsSeed line.now seed → ⊥) }

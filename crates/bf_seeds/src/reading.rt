@@ -14,13 +14,14 @@ use bf_value::{OutOfMemory, Text};
 use std::alloc::{AllocError, Global};
 use std::slice;
 
-/// The lines that aren't empty.
+/// The lines of a text that aren't empty.
 fn lines_of(alloc: Global, text: &str) -> Result<Vec<&str>, AllocError>
     ensures { IfOk result (λ found. map (λ line. line.now) found.items ≡ lines_in text.now) }
 {
     text.lines().filter(|line| !line.is_empty()).collect(alloc)
 }
 
+/// The fault of a line of another form, `BadSeed`, or `OutOfMemory` where there is none for a copy of the line.
 fn bad_seed(alloc: Global, line: &str) -> SeedsFault
     ensures { (result ≡ TheVariants.BadSeed line.now) ⊎ (result ≡ TheVariants.OutOfMemory) }
 {
@@ -30,7 +31,7 @@ fn bad_seed(alloc: Global, line: &str) -> SeedsFault
     }
 }
 
-/// Refuses a seed whose task or run is unknown.
+/// The fault `Unknown` of a seed whose task the plan doesn't have, or whose run is over none of these data intervals.
 fn refuse_unknown(plan: &Plan, intervals: &[Interval], seed: &Seed) -> Result<(), SeedsFault>
     ensures ok { OnOk result (seed_fault plan.now.dag intervals.now (seed.now ∷ []) ≡ None) }
     ensures err { IfErr result (IsFaultOfSeed plan.now.dag intervals.now seed.now) }
@@ -41,7 +42,7 @@ fn refuse_unknown(plan: &Plan, intervals: &[Interval], seed: &Seed) -> Result<()
     }
 }
 
-/// The seed of a line.
+/// The seed that a line names; `BadSeed` for a line of another form, `Unknown` for a task or run that isn't known.
 fn seed_in_line(
     alloc: Global,
     plan: &Plan,
@@ -66,6 +67,7 @@ fn seed_in_line(
     }
 }
 
+/// Adds a seed at the end.
 fn add_seed(seeds: &mut Vec<Seed>, seed: Seed) -> Result<(), OutOfMemory>
     ensures { OnOk result (seeds.new.items ≡ seeds.old.items ++ seed ∷ []) }
 {
@@ -73,6 +75,7 @@ fn add_seed(seeds: &mut Vec<Seed>, seed: Seed) -> Result<(), OutOfMemory>
     Ok(())
 }
 
+/// The seeds that these lines name, in order, or the fault of the first bad line.
 fn seeds_of(
     alloc: Global,
     plan: &Plan,
@@ -94,8 +97,8 @@ fn seeds_of(
     Ok(seeds)
 }
 
-/// The seeds of a file, line by line, but for empty lines. Refused is the earliest line that is of another form, or else has a task that is unknown, or
-/// else a run.
+/// The seeds that the lines of a text name, in order, but for empty lines; or the fault of the first bad line:
+/// `BadSeed` for another form, `Unknown` for a task that isn't known, or else a run.
 pub fn seeds_in(
     alloc: Global,
     plan: &Plan,

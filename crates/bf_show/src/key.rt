@@ -19,6 +19,7 @@ pub(crate) enum Key {
 }
 
 impl Key {
+    /// The name of a member, as lines of JSON have it.
     fn word(self) -> &'static str
         ensures { result.now ≡ key_word self }
     {
@@ -36,7 +37,7 @@ impl Key {
     }
 }
 
-/// Adds what stands before the value of a member.
+/// Adds what is before the value of a member: a comma, its name in quotes and a colon.
 pub(crate) fn push_key(text: &mut String, key: Key) -> Result<(), OutOfMemory>
     ensures { OnOk result (string_bytes text.new ≡ string_bytes text.old ++ key_text key) }
 {

@@ -19,7 +19,7 @@ pub fn instances_are_read_back()
         ≡ Some (outline (object (instance_members run id (unsigned index) instance))) }
 {}
 
-/// So is that of a task that was decided without a try.
+/// The line of a task that was decided without a try is read as JSON with just its members.
 pub fn untried_tasks_are_read_back()
     ensures { (run : RunReport) (id state : List ℕ)
         → document (compact_text (object (untried_members run id state)))

@@ -16,7 +16,7 @@ use bf_value::{OutOfMemory, Text};
 use bf_xcom::RunState;
 use std::alloc::Global;
 
-/// Adds a moment as a string of JSON.
+/// Adds a moment as a string of JSON, in its quotes.
 fn push_moment(alloc: Global, text: &mut String, moment: Moment) -> Result<(), OutOfMemory>
     ensures { OnOk result (string_bytes text.new
         ≡ string_bytes text.old ++ quoted (moment_text moment.at.nanosecond)) }
@@ -25,7 +25,7 @@ fn push_moment(alloc: Global, text: &mut String, moment: Moment) -> Result<(), O
     push_string(alloc, text, word.as_str())
 }
 
-/// The word for the state of a run, as a string of JSON.
+/// The word for the state of a run, as a string of JSON, in its quotes.
 fn run_state_string(state: RunState) -> &'static str
     ensures { result.now ≡ quoted (run_state_word_of state) }
 {
@@ -35,7 +35,7 @@ fn run_state_string(state: RunState) -> &'static str
     }
 }
 
-/// What each line of a run begins with.
+/// What each line of a run begins with: an open object of JSON with its data interval and its state.
 fn line_start_of(alloc: Global, run: &RunReport) -> Result<String, OutOfMemory>
     ensures { IfOk result (λ text. string_bytes text ≡ run_start run.now) }
 {
@@ -57,7 +57,7 @@ struct RunLines<'a> {
 }
 
 impl RunLines<'_> {
-    /// Adds the beginning of a task's line.
+    /// Adds the beginning of a task's line: the run's part and the task's id. The object stays open.
     fn push_start(&self, alloc: Global, text: &mut String, id: &str) -> Result<(), OutOfMemory>
         ensures { OnOk result (string_bytes text.new
             ≡ string_bytes text.old ++ (run_start self.now.run.now
@@ -68,7 +68,7 @@ impl RunLines<'_> {
         push_string(alloc, text, id)
     }
 
-    /// Adds a task that was decided without a try. The state is a string of JSON.
+    /// Adds the line of a task without a try, with its line feed. `state` is a string of JSON in its quotes.
     fn push_untried(
         &self,
         alloc: Global,
@@ -86,7 +86,7 @@ impl RunLines<'_> {
         Ok(())
     }
 
-    /// Adds the instance of a task that isn't expanded.
+    /// Adds the line of a task that isn't expanded, with its line feed, by its one instance, whose index is -1.
     fn push_unmapped(
         &self,
         alloc: Global,
@@ -103,7 +103,7 @@ impl RunLines<'_> {
         push_ended(alloc, text, instance)
     }
 
-    /// Adds an instance of an expanded task.
+    /// Adds the line of an instance of an expanded task, with its line feed. `index` is its map index, from 0.
     fn push_instance(
         &self,
         alloc: Global,
@@ -121,6 +121,7 @@ impl RunLines<'_> {
         push_ended(alloc, text, instance)
     }
 
+    /// Adds a line for each instance of an expanded task, by map index.
     fn push_mapped(
         &self,
         alloc: Global,
@@ -137,6 +138,7 @@ impl RunLines<'_> {
         Ok(())
     }
 
+    /// Adds the lines of a task in the run: one for each instance, and one where it has no try.
     fn push_task(
         &self,
         alloc: Global,
@@ -160,6 +162,7 @@ impl RunLines<'_> {
         }
     }
 
+    /// Adds the lines of the tasks of the run, whose ids are `ids` in the same order.
     fn push_tasks(
         &self,
         alloc: Global,
@@ -177,6 +180,7 @@ impl RunLines<'_> {
     }
 }
 
+/// Adds the lines of a run, one for each task instance. `ids` are those of its tasks, in order.
 fn push_run(
     alloc: Global,
     text: &mut String,
@@ -191,6 +195,7 @@ fn push_run(
     lines.push_tasks(alloc, text, ids, run.tasks.as_slice())
 }
 
+/// Adds the lines of these runs, one for each task instance. `ids` are those of the tasks, in order.
 fn push_runs(
     alloc: Global,
     text: &mut String,
@@ -206,7 +211,7 @@ fn push_runs(
     Ok(())
 }
 
-/// The lines of a report.
+/// The lines of a report, an object of JSON for each task instance, each with a line feed.
 pub(crate) fn text_of_json_lines(alloc: Global, report: &Report) -> Result<String, OutOfMemory>
     ensures { IfOk result (λ text. string_bytes text ≡ json_lines report.now) }
 {

@@ -8,8 +8,8 @@ use bf_device::{Cause, Write, WriteFault, send};
 use bf_report::Report;
 use std::alloc::Global;
 
-/// Writes a report as lines of JSON. The whole text is made first, so want of memory is known before the first byte goes out.
-/// It gives up where a write fails or takes nothing, and at the 1,001st interruption.
+/// Writes a report as lines of JSON. The whole text is made first, so want of memory is known before the first byte
+/// goes out. It gives up where a write fails or takes nothing, and at the 1,001st interruption.
 pub fn write_json_lines<W: Write>(
     alloc: Global,
     report: &Report,

@@ -127,9 +127,9 @@ unfoldable pub table_in : List ℕ → Result (List TableEntry) TableFault
 table_in bytes = table_with (option_and_then as_array (json_of_file bytes))
 
 -- the number of the refusal, which want of memory doesn't have
-abbrev pub fault_number : TableFault → Option ℕ
-fault_number (BadTable entry) = Some 19
-fault_number OutOfMemory = None
+abbrev pub refusal_number_of : TableFault → Option ℕ
+refusal_number_of (BadTable entry) = Some 19
+refusal_number_of OutOfMemory = None
 
 -- why a table is refused, as it is printed
 abbrev pub fault_text : TableFault → List ℕ

@@ -1,6 +1,6 @@
 //! Tables of answers.
 ghost use Rattle.std.specs.Prelude.{◌≡◌, ◌≢◌, IfOk, IfErr, Ok, Err};
-ghost use Rattle.bf_table.specs.Tables.{fault_number, table_in};
+ghost use Rattle.bf_table.specs.Tables.{refusal_number_of, table_in};
 
 use crate::table_reader::entries_of_file;
 use bf_value::{OutOfMemory, Sequence, Text};
@@ -49,9 +49,9 @@ pub enum TableFault {
 }
 
 impl TableFault {
-    /// The number of the refusal, which want of memory doesn't have.
+    /// The number of the refusal (docs/FORMATS.md), 19; None for want of memory.
     pub fn refusal_number(self) -> Option<u32>
-        ensures { result ≡ fault_number self }
+        ensures { result ≡ refusal_number_of self }
     {
         match self {
             TableFault::BadTable(_) => Some(19),

@@ -1,6 +1,6 @@
 //! Which entry of a table comes first of those that name the same.
 ghost use Rattle.std.specs.Prelude.{◌≡◌, ◌≤◌, ◌<◌, None, Some, IfOk};
-ghost use Rattle.std.specs.BTreeMap;
+ghost use Rattle.std.specs.BTreeMap as tree;
 ghost use Rattle.bf_table.specs.TableIndex.{date_named, number_named, pattern_cmp, pattern_in, IsIndexOf};
 ghost use Rattle.bf_table.specs.inner.TableIndex.{keys_with_date, keys_with_index, keys_with_task, earlier_place_of, first_of_keys, keys_of, pattern_of_try};
 
@@ -20,7 +20,8 @@ pub(crate) struct Pattern {
 }
 
 impl Pattern {
-    /// All that an entry may name of a try.
+    /// The pattern of an entry that names all of a try: its task by number, its run by the 20 bytes of the logical
+    /// date, its map index and its number.
     pub(crate) fn of_try(task: u32, date: [u8; 20], name: JobName) -> Pattern
         ensures { result ≡ pattern_of_try task date name }
     {
@@ -36,6 +37,8 @@ impl Pattern {
 /// The number of the first entry with a pattern.
 pub(crate) type Firsts = BTreeMap<Pattern, usize>;
 
+/// The number of the task that an entry names, `Some(None)` where it names none;
+/// `None` where the graph has no such task.
 fn task_number_named(graph: &Graph, named: &Option<Text>) -> Option<Option<u32>>
     ensures { result ≡ number_named graph.now.ids named.now }
 {
@@ -45,6 +48,8 @@ fn task_number_named(graph: &Graph, named: &Option<Text>) -> Option<Option<u32>>
     }
 }
 
+/// The 20 bytes of the run that an entry names, `Some(None)` where it names none;
+/// `None` where the text has another length.
 fn run_date_named(named: &Option<Text>) -> Option<Option<[u8; 20]>>
     ensures { result ≡ date_named named.now }
 {
@@ -57,7 +62,7 @@ fn run_date_named(named: &Option<Text>) -> Option<Option<[u8; 20]>>
     }
 }
 
-/// What an entry names; none where it names what no try has.
+/// The pattern of what an entry names; None where its task isn't in the graph, or its run's text hasn't 20 bytes.
 fn pattern_of(graph: &Graph, entry: &TableEntry) -> Option<Pattern>
     ensures { result ≡ pattern_in graph.now.ids entry.now }
 {
@@ -69,7 +74,8 @@ fn pattern_of(graph: &Graph, entry: &TableEntry) -> Option<Pattern>
     })
 }
 
-/// For each pattern the first entry that has it. Later entries go in first, and earlier ones take their places.
+/// For each pattern the place, from 0, of the first entry that has it. Entries without a pattern, which answer for no
+/// try of the graph, are left out.
 pub(crate) fn firsts_of(
     alloc: Global,
     graph: &Graph,
@@ -88,6 +94,7 @@ pub(crate) fn firsts_of(
     Ok(firsts)
 }
 
+/// The lesser of two places, of which either may be missing; None where both are.
 fn earlier_place(one: Option<usize>, other: Option<usize>) -> Option<usize>
     ensures { result ≡ earlier_place_of one other }
 {
@@ -98,12 +105,15 @@ fn earlier_place(one: Option<usize>, other: Option<usize>) -> Option<usize>
     }
 }
 
+/// The place, from 0, of the first entry with exactly this pattern; None where there is none.
 fn first_with_pattern(firsts: &Firsts, pattern: Pattern) -> Option<usize>
-    ensures { result ≡ BTreeMap.get pattern_cmp firsts.now pattern }
+    ensures { result ≡ tree.get pattern_cmp firsts.now pattern }
 {
     firsts.get(&pattern).copied()
 }
 
+/// The place, from 0, of the first entry that names just this task, run (by `date`) and index, each unnamed where
+/// None, and the try number of `asked` or none. None where there is no such entry.
 #[tactic(auto, using(crate::proofs::IndexLemmas::two_keys))]
 fn first_with_index(
     firsts: &Firsts,
@@ -112,7 +122,7 @@ fn first_with_index(
     date: Option<[u8; 20]>,
     index: Option<i64>,
 ) -> Option<usize>
-    ensures { result ≡ first_of_keys (BTreeMap.get pattern_cmp firsts.now)
+    ensures { result ≡ first_of_keys (tree.get pattern_cmp firsts.now)
         (keys_with_index asked task date index) }
 {
     let any = Pattern {
@@ -131,6 +141,8 @@ fn first_with_index(
     )
 }
 
+/// The place, from 0, of the first entry that names just this task and run (by `date`), each unnamed where None, and
+/// the index of `asked` or none, and so its try number. None where there is no such entry.
 #[tactic(auto, using(crate::proofs::IndexLemmas::two_groups))]
 fn first_with_date(
     firsts: &Firsts,
@@ -138,7 +150,7 @@ fn first_with_date(
     task: Option<u32>,
     date: Option<[u8; 20]>,
 ) -> Option<usize>
-    ensures { result ≡ first_of_keys (BTreeMap.get pattern_cmp firsts.now)
+    ensures { result ≡ first_of_keys (tree.get pattern_cmp firsts.now)
         (keys_with_date asked task date) }
 {
     let any = first_with_index(firsts, asked, task, date, None);
@@ -146,9 +158,11 @@ fn first_with_date(
     earlier_place(any, same)
 }
 
+/// The place, from 0, of the first entry that names just this task, unnamed where None, and the run of `asked` or
+/// none, and so its index and its try number. None where there is no such entry.
 #[tactic(auto, using(crate::proofs::IndexLemmas::two_groups))]
 fn first_with_task(firsts: &Firsts, asked: Pattern, task: Option<u32>) -> Option<usize>
-    ensures { result ≡ first_of_keys (BTreeMap.get pattern_cmp firsts.now)
+    ensures { result ≡ first_of_keys (tree.get pattern_cmp firsts.now)
         (keys_with_task asked task) }
 {
     let any = first_with_date(firsts, asked, task, None);
@@ -156,9 +170,10 @@ fn first_with_task(firsts: &Firsts, asked: Pattern, task: Option<u32>) -> Option
     earlier_place(any, same)
 }
 
-/// The number of the first entry that answers for a try. Each of what a try has is named by the entry, or none is.
+/// The place, from 0, of the first entry that answers for the try with the pattern `asked`: of each part it names
+/// either that or nothing. None where there is no such entry.
 pub(crate) fn first_for_try(firsts: &Firsts, asked: Pattern) -> Option<usize>
-    ensures { result ≡ first_of_keys (BTreeMap.get pattern_cmp firsts.now) (keys_of asked) }
+    ensures { result ≡ first_of_keys (tree.get pattern_cmp firsts.now) (keys_of asked) }
 {
     let any = first_with_task(firsts, asked, None);
     let same = first_with_task(firsts, asked, asked.task);

@@ -19,24 +19,28 @@ use std::alloc::Global;
 /// How many bytes a table may have.
 pub const LONGEST_TABLE: usize = 8_388_608;
 
+/// Whether an entry of a table may have this key.
 fn is_key(name: &str) -> bool
     ensures { result ≡ is_key_in name.now }
 {
     matches!(name, "task" | "index" | "run" | "try" | "status" | "out")
 }
 
+/// Whether an entry of a table may have all these keys.
 fn are_keys(members: &Map<String, Value>) -> bool
     ensures { result ≡ list_all (λ name. is_key_in (string_bytes name)) (keys members.now) }
 {
     members.keys().all(|name| is_key(name.as_str()))
 }
 
+/// Whether an object has only the keys of an entry.
 fn has_known_keys(members: &Map<String, Value>) -> bool
     ensures { result ≡ has_known_keys_in (members_view members.now.entries) }
 {
     are_keys(members)
 }
 
+/// Whether a value is an object with only the keys of an entry.
 fn is_entry(value: &Value) -> bool
     ensures { result ≡ is_entry_in (view value.now) }
 {
@@ -46,6 +50,7 @@ fn is_entry(value: &Value) -> bool
     }
 }
 
+/// Refuses what is no object or has a key that no entry has. `number` is that of the entry, for the fault.
 fn refuse_other_object(number: u32, value: &Value) -> Result<(), TableFault>
     ensures { Reads (Some number) (λ u. u) result
         (if is_entry_in (view value.now) then Some tt else None) }
@@ -57,18 +62,22 @@ fn refuse_other_object(number: u32, value: &Value) -> Result<(), TableFault>
     }
 }
 
+/// The text that a value is, or else the entry is bad. `number` is that of the entry, for the fault.
 fn text_at<'a>(number: u32, value: &'a Value) -> Result<&'a str, TableFault>
     ensures { Reads (Some number) (λ t. t.now) result (as_str (view value.entry.now)) }
 {
     value.as_str().ok_or(TableFault::BadTable(Some(number)))
 }
 
+/// The whole number that a value is, or else the entry is bad. `number` is that of the entry, for the fault.
 fn number_at(number: u32, value: &Value) -> Result<i64, TableFault>
     ensures { Reads (Some number) (λ n. n) result (number_of (view value.now)) }
 {
     value.as_i64().ok_or(TableFault::BadTable(Some(number)))
 }
 
+/// The task that an entry names, None where it names none; the entry is bad where the value is no text. `number` is
+/// that of the entry, for the fault.
 fn task_if_named(
     alloc: Global,
     number: u32,
@@ -84,6 +93,8 @@ fn task_if_named(
     Ok(Some(Text::copy_of(alloc, text)?))
 }
 
+/// The index or the try that an entry names, None where it names none; the entry is bad where the value is no whole
+/// number. `number` is that of the entry, for the fault.
 fn number_if_named(number: u32, value: Option<&Value>) -> Result<Option<i64>, TableFault>
     ensures { Reads (Some number) (λ n. n) result
         (if_there number_of (option_map (λ v. view v.now) value.entry)) }
@@ -94,6 +105,8 @@ fn number_if_named(number: u32, value: Option<&Value>) -> Result<Option<i64>, Ta
     Ok(Some(number_at(number, value)?))
 }
 
+/// The moment that a value is, as `2024-01-31T06:05:09Z`, or else the entry is bad. `number` is that of the entry,
+/// for the fault.
 fn date_at<'a>(number: u32, value: &'a Value) -> Result<&'a str, TableFault>
     ensures { Reads (Some number) (λ t. t.now) result (date_in (view value.entry.now)) }
 {
@@ -105,6 +118,8 @@ fn date_at<'a>(number: u32, value: &'a Value) -> Result<&'a str, TableFault>
     }
 }
 
+/// The moment of the run that an entry names, None where it names none; the entry is bad where the value is no
+/// moment. `number` is that of the entry, for the fault.
 fn run_if_named(
     alloc: Global,
     number: u32,
@@ -120,6 +135,8 @@ fn run_if_named(
     Ok(Some(Text::copy_of(alloc, date)?))
 }
 
+/// The last line of an entry's output, empty where it has none; the entry is bad where the output is no text.
+/// `number` is that of the entry, for the fault.
 fn line_at(alloc: Global, number: u32, value: Option<&Value>) -> Result<Sequence<u8>, TableFault>
     ensures { Reads (Some number) (λ line. line) result
         (line_in (option_map (λ v. view v.now) value.entry)) }
@@ -131,6 +148,8 @@ fn line_at(alloc: Global, number: u32, value: Option<&Value>) -> Result<Sequence
     Ok(copy_of_bytes(alloc, last_line(out.as_bytes()))?)
 }
 
+/// The exit status of an entry, 0 where it names none; the entry is bad where that is no whole number from 0 to 255.
+/// `number` is that of the entry, for the fault.
 fn status_at(number: u32, value: Option<&Value>) -> Result<u8, TableFault>
     ensures { Reads (Some number) (λ n. n) result
         (status_in (option_map (λ v. view v.now) value.entry)) }
@@ -144,6 +163,7 @@ fn status_at(number: u32, value: Option<&Value>) -> Result<u8, TableFault>
     }
 }
 
+/// The entry that a value of the table is. `number` is its place in the table, from 0, for the fault.
 #[tactic(auto, unfolding(crate::specs::Tables::entry_of))]
 fn entry_at(alloc: Global, number: u32, value: &Value) -> Result<TableEntry, TableFault>
     ensures { Reads (Some number) (λ e. e) result (entry_of (view value.now)) }
@@ -165,6 +185,7 @@ fn entry_at(alloc: Global, number: u32, value: &Value) -> Result<TableEntry, Tab
     })
 }
 
+/// The entries of a table, in order, or the fault of the first bad one.
 fn entries_in(alloc: Global, items: &[Value]) -> Result<Vec<TableEntry>, TableFault>
     requires { length items.now < 2 ^ 32 }
     ensures { Gives (λ v. v.items) result (entries_from 0 (entries_of (items_view items.now))) }
@@ -176,6 +197,7 @@ fn entries_in(alloc: Global, items: &[Value]) -> Result<Vec<TableEntry>, TableFa
     Ok(entries)
 }
 
+/// The JSON of a table file; a fault where that has more than `LONGEST_TABLE` bytes, or is no JSON.
 #[tactic(auto, unfolding(crate::specs::Tables::json_of_file))]
 fn json_of(alloc: Global, bytes: &[u8]) -> Result<Value, TableFault>
     ensures { Reads None (λ v. view v) result (json_of_file bytes.now) }
@@ -194,6 +216,7 @@ fn json_of(alloc: Global, bytes: &[u8]) -> Result<Value, TableFault>
     }
 }
 
+/// The entries of a table, in order; a fault where it is no list, or for the first bad entry.
 fn entries_of_json(alloc: Global, json: &Value) -> Result<Vec<TableEntry>, TableFault>
     requires { ForSome (as_array (view json.now)) (λ items. items_len items < 2 ^ 32) }
     ensures { Gives (λ v. v.items) result (table_with (as_array (view json.now))) }
@@ -204,7 +227,9 @@ fn entries_of_json(alloc: Global, json: &Value) -> Result<Vec<TableEntry>, Table
     }
 }
 
-#[tactic(auto, unfolding(crate::specs::Tables::table_of))]
+/// The entries of the bytes of a table file, in order; a fault where they are too many bytes or no JSON list, or for
+/// the first bad entry. No file is read.
+#[tactic(auto, unfolding(crate::specs::Tables::table_in))]
 pub(crate) fn entries_of_file(alloc: Global, bytes: &[u8]) -> Result<Vec<TableEntry>, TableFault>
     ensures { Gives (λ v. v.items) result (table_in bytes.now) }
 {

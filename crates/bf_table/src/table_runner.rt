@@ -48,6 +48,7 @@ impl<'a> Model for TableRunner<'a> {
     ghost invariant = { λ r. IsIndexOf (shape_of r.plan.now.dag).ids r.table r.firsts };
 }
 
+/// Whether an entry that names `named`, or nothing, answers for what has this text.
 fn matches_text(named: &Option<Text>, text: &[u8]) -> bool
     ensures { result ≡ matches_text_in named.now text.now }
 {
@@ -57,6 +58,7 @@ fn matches_text(named: &Option<Text>, text: &[u8]) -> bool
     }
 }
 
+/// Whether an entry that names `named`, or nothing, answers for what has this number.
 fn matches_number(named: Option<i64>, number: i64) -> bool
     ensures { result ≡ matches_number_in named number }
 {
@@ -66,6 +68,7 @@ fn matches_number(named: Option<i64>, number: i64) -> bool
     }
 }
 
+/// Whether an entry answers for a try whose task has this id and whose run this date: all that the entry names fits.
 fn answers_for(id: &[u8], date: &[u8], name: JobName, entry: &TableEntry) -> bool
     ensures { result ≡ answers_for_in id.now date.now name entry.now }
 {
@@ -75,6 +78,8 @@ fn answers_for(id: &[u8], date: &[u8], name: JobName, entry: &TableEntry) -> boo
         && matches_number(entry.attempt, i64::from(name.attempt))
 }
 
+/// The first entry that answers for a try, found one entry after the other; None where none does. `id` is that of the
+/// try's task, `date` that of its run.
 // A try of no task of the plan, or of no run, is looked up one entry after the other.
 fn find_by_scan<'a>(
     entries: &'a [TableEntry],
@@ -89,6 +94,8 @@ fn find_by_scan<'a>(
         .find(|entry| answers_for(id, date, name, entry))
 }
 
+/// The first entry that answers for the try with the pattern `asked`, found by `firsts`, the index of the table; None
+/// where none does.
 fn find_by_index<'a>(
     entries: &'a [TableEntry],
     firsts: &Firsts,
@@ -104,6 +111,8 @@ fn find_by_index<'a>(
     }
 }
 
+/// The first entry that answers for a try in a run of this date, of 20 bytes; None where none does. `id` is that of
+/// the try's task, `firsts` the index of the table.
 fn entry_in_run<'a>(
     entries: &'a [TableEntry],
     firsts: &Firsts,
@@ -122,6 +131,7 @@ fn entry_in_run<'a>(
     }
 }
 
+/// The id of a task, empty where there is no such task.
 #[tactic(auto, unfolding(bf_plan::specs::Plans::task_of))]
 fn id_of(plan: &Plan, task: u32) -> &str
     ensures { result.now ≡ (task_of plan.now.dag task).id }
@@ -132,6 +142,7 @@ fn id_of(plan: &Plan, task: u32) -> &str
     }
 }
 
+/// The 20 bytes of the logical date of the run with this number, from 0; None where there is no such run.
 fn date_of(dates: &[[u8; 20]], run: u32) -> Option<[u8; 20]>
     ensures some { IfSome result (λ date. (length date ≡ 20)
         × (slice_index_or dates.now run [] ≡ date)) }
@@ -146,6 +157,7 @@ fn date_of(dates: &[[u8; 20]], run: u32) -> Option<[u8; 20]>
     }
 }
 
+/// The logical dates of runs that start at these moments, each of 20 bytes, as `2024-01-31T06:05:09Z`.
 fn dates_of(alloc: Global, starts: &[Timestamp]) -> Result<Vec<[u8; 20]>, OutOfMemory>
     requires { All (λ start. IsShown start.nanosecond) starts.now }
     ensures { IfOk result (λ dates. dates.items ≡ dates_in starts.now) }
@@ -157,6 +169,7 @@ fn dates_of(alloc: Global, starts: &[Timestamp]) -> Result<Vec<[u8; 20]>, OutOfM
     Ok(dates)
 }
 
+/// What an entry answers; where there is none, status 0 and an empty line.
 fn raw_of(alloc: Global, entry: Option<&TableEntry>) -> Result<Raw, OutOfMemory>
     ensures { IfOk result (λ raw. raw ≡ raw_in (option_copied entry.entry)) }
 {
@@ -172,7 +185,8 @@ fn raw_of(alloc: Global, entry: Option<&TableEntry>) -> Result<Raw, OutOfMemory>
 impl<'a> TableRunner<'a> {
     ghost use Rattle.std.specs.Prelude.{All};
 
-    /// A runner that answers by the table, for the tasks of the plan and for runs with these starts.
+    /// A runner that answers by the table, for the tasks of the plan in runs that start at these moments, in the
+    /// order of the runs' numbers.
     pub fn new(
         alloc: Global,
         table: Table,
@@ -194,6 +208,7 @@ impl<'a> TableRunner<'a> {
         })
     }
 
+    /// The first entry of the table that answers for a try; None where none does.
     fn entry_for(&self, name: JobName) -> Option<&TableEntry>
         ensures { option_copied result
             ≡ find (answers_for_in (task_of self.now.dag name.task).id
@@ -207,6 +222,7 @@ impl<'a> TableRunner<'a> {
         }
     }
 
+    /// What the table answers for a try: status 0 and an empty line where no entry does.
     #[tactic(auto, unfolding(crate::specs::Tables::answer_of))]
     fn answer(&self, name: JobName) -> Result<Raw, OutOfMemory>
         ensures { IfOk result (λ raw. raw ≡ answer_of self.now name) }
@@ -223,6 +239,7 @@ impl TaskRunner for TableRunner<'_> {
 
     ghost may_give_up = { λ s n g. ⊥ };
 
+    /// Answers by the table. The ticket comes back only where memory is wanting.
     fn run(&self, ticket: Ticket) -> Result<Done, (Ticket, RunnerFault)> {
         match self.answer(ticket.name()) {
             Ok(raw) => Ok(ticket.answer(raw)),
@@ -233,6 +250,7 @@ impl TaskRunner for TableRunner<'_> {
 
 /// A table knows no more than the answer.
 impl DetailedRunner for TableRunner<'_> {
+    /// Answers by the table, with nothing beside the answer.
     fn run_in_detail(
         &self,
         ticket: Ticket,

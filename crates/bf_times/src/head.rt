@@ -9,13 +9,14 @@ use bf_plan::Plan;
 use bf_value::OutOfMemory;
 use std::alloc::Global;
 
+/// The place of the first line feed, from 0; None where there is none.
 fn line_feed_in(bytes: &[u8]) -> Option<usize>
     ensures { result ≡ position (λ b. b == 10) bytes.now }
 {
     bytes.iter().position(|byte| *byte == b'\n')
 }
 
-/// The first line, with its line feed.
+/// The first line, with its line feed; None where there is no line feed.
 pub(crate) fn first_line(bytes: &[u8]) -> Option<&[u8]>
     ensures { option_map (λ line. line.now) result ≡ first_line_of bytes.now }
 {
@@ -25,7 +26,8 @@ pub(crate) fn first_line(bytes: &[u8]) -> Option<&[u8]>
     }
 }
 
-/// Whether a line is the same as a head up to the bracket that ends its list, and has a bracket or a comma there.
+/// Whether a line is a journal's head like `head`, whatever tasks it says are cleared: the same up to the bracket
+/// that ends the list, and there a bracket or a comma.
 fn is_line_like(line: &[u8], head: &[u8]) -> bool
     ensures { result ≡ is_head_like head.now line.now }
 {
@@ -34,7 +36,7 @@ fn is_line_like(line: &[u8], head: &[u8]) -> bool
         && (line[..front] == head[..front] && (line[front] == b']' || line[front] == b','))
 }
 
-/// Whether a line is the head of a journal of a plan and its runs.
+/// Whether a line is the head of a journal of this plan and these runs, whatever tasks it says are cleared.
 pub(crate) fn is_head(
     alloc: Global,
     plan: &Plan,

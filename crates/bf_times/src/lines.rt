@@ -16,7 +16,7 @@ const TIMES: usize = 8;
 /// How many members name a try: its run, its task, its map index and its number.
 const NAME: usize = 4;
 
-/// A text as it is, a whole number in decimal.
+/// Adds a value and a space: a text as it is, a whole number in decimal, and for any other value the space alone.
 fn push_word(text: &mut String, value: &Xval) -> Result<(), OutOfMemory>
     ensures { OnOk result (string_bytes text.new
         ≡ string_bytes text.old ++ word_before value.now) }
@@ -30,6 +30,7 @@ fn push_word(text: &mut String, value: &Xval) -> Result<(), OutOfMemory>
     Ok(())
 }
 
+/// Adds these values, each with a space behind it.
 fn push_words(text: &mut String, values: &[Xval]) -> Result<(), OutOfMemory>
     ensures { OnOk result (string_bytes text.new
         ≡ string_bytes text.old ++ flat_map word_before values.now) }
@@ -40,7 +41,7 @@ fn push_words(text: &mut String, values: &[Xval]) -> Result<(), OutOfMemory>
     Ok(())
 }
 
-/// When a try started and ended, and its code, where these are three whole numbers.
+/// Start, end and code of a try, by the three values of its stamp; None where these aren't three whole numbers.
 fn numbers_in(values: &[Xval]) -> Option<(i64, i64, i64)>
     ensures { result ≡ three_numbers values.now }
 {
@@ -50,7 +51,7 @@ fn numbers_in(values: &[Xval]) -> Option<(i64, i64, i64)>
     }
 }
 
-/// The same, of the members of a record.
+/// Start, end and code of a try, by the fields of its record; None where the record has no times.
 fn times_in(fields: &[Xval]) -> Option<(i64, i64, i64)>
     ensures { result ≡ numbers_of (slice_get fields.now 8) }
 {
@@ -60,7 +61,8 @@ fn times_in(fields: &[Xval]) -> Option<(i64, i64, i64)>
     }
 }
 
-/// The line of a record, where it has times.
+/// Adds the line of a record's times, with its line feed: what names the try, its start, its end and its code;
+/// nothing where the record has no times.
 fn push_times_of_record(text: &mut String, fields: &[Xval]) -> Result<(), OutOfMemory>
     ensures { OnOk result (string_bytes text.new
         ≡ string_bytes text.old ++ record_times fields.now) }
@@ -73,7 +75,7 @@ fn push_times_of_record(text: &mut String, fields: &[Xval]) -> Result<(), OutOfM
     Ok(())
 }
 
-/// The same of the record that a line says.
+/// Adds the line of times of the record in a line of JSON; nothing where that isn't a list or has no times.
 fn push_times_of_line(alloc: Global, text: &mut String, line: &str) -> Result<(), OutOfMemory>
     ensures { OnOk result (string_bytes text.new
         ≡ string_bytes text.old ++ line_times line.now) }
@@ -84,13 +86,14 @@ fn push_times_of_line(alloc: Global, text: &mut String, line: &str) -> Result<()
     }
 }
 
+/// The lines of a text, without their line feeds.
 fn lines_of(alloc: Global, records: &str) -> Result<Vec<&str>, AllocError>
     ensures { IfOk result (λ found. map (λ line. line.now) found.items ≡ lines_in records.now) }
 {
     records.lines().collect(alloc)
 }
 
-/// The same of each of these lines.
+/// Adds a line of times for each of these lines of JSON that is a record with times.
 fn push_times_of_lines(alloc: Global, text: &mut String, lines: &[&str]) -> Result<(), OutOfMemory>
     ensures { OnOk result (string_bytes text.new ≡ string_bytes text.old
         ++ flat_map line_times (map (λ line. line.now) lines.now)) }
@@ -101,7 +104,7 @@ fn push_times_of_lines(alloc: Global, text: &mut String, lines: &[&str]) -> Resu
     Ok(())
 }
 
-/// The same of each line of a text.
+/// Adds a line of times for each line of a text that is a record with times.
 pub(crate) fn push_times_of_text(
     alloc: Global,
     text: &mut String,

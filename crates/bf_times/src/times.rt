@@ -10,7 +10,8 @@ use bf_plan::Plan;
 use bf_value::OutOfMemory;
 use std::alloc::Global;
 
-/// The times that the whole lines behind a head tell.
+/// The text of the times in `records`, the whole lines behind a journal's head: a head of its own and a line for each
+/// record with times; only the head where they aren't UTF-8.
 fn text_of_times(alloc: Global, records: &[u8]) -> Result<String, OutOfMemory>
     ensures { IfOk result (λ text. IsTextOf records.now (string_bytes text)) }
 {
@@ -22,7 +23,9 @@ fn text_of_times(alloc: Global, records: &[u8]) -> Result<String, OutOfMemory>
     Ok(text)
 }
 
-/// The times of a journal of a plan and of these runs, whatever it says is cleared. A piece of a line at its end is dropped.
+/// The text of the times in the bytes of a journal of a plan and these runs, whatever tasks its head says are
+/// cleared. An unfinished last line is dropped. A fault where the head is missing or another's, or a whole line is no
+/// record.
 pub fn times_of(
     alloc: Global,
     plan: &Plan,

@@ -29,7 +29,7 @@ pub struct Raw {
     pub line: Line,
 }
 
-/// Bytes, copied.
+/// A copy of bytes.
 pub fn copy_of_bytes(alloc: Global, bytes: &[u8]) -> Result<Sequence<u8>, OutOfMemory>
     ensures { IfOk result (λ copy. copy ≡ bytes.now) }
 {
@@ -37,6 +37,7 @@ pub fn copy_of_bytes(alloc: Global, bytes: &[u8]) -> Result<Sequence<u8>, OutOfM
 }
 
 impl Line {
+    /// A copy of the line.
     fn copy(&self, alloc: Global) -> Result<Line, OutOfMemory>
         ensures { IfOk result (λ line. line ≡ self.now) }
     {
@@ -49,7 +50,7 @@ impl Line {
 }
 
 impl Raw {
-    /// The answer of a program that ended with this status after this last line.
+    /// The raw answer of a program that ended with this status and printed this last line.
     pub fn with_code(code: i32, line: Sequence<u8>) -> Raw
         ensures { result ≡ record { exit = Exit.Code code; line = Line.Bytes line } }
     {
@@ -59,7 +60,7 @@ impl Raw {
         }
     }
 
-    /// An equal one.
+    /// A copy of the raw answer.
     pub fn copy(&self, alloc: Global) -> Result<Raw, OutOfMemory>
         ensures { IfOk result (λ raw. raw ≡ self.now) }
     {

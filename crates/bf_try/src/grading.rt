@@ -25,6 +25,7 @@ pub const MOST_ITEMS: usize = 1_024;
 /// The status by which a try says that it is skipped. Airflow's `BashOperator` has the same.
 const SKIP_STATUS: i32 = 99;
 
+/// Whether the JSON text of what is pushed, if anything is, has at most `LONGEST_VALUE` bytes.
 fn is_short_value(value: &Option<Xval>) -> bool
     ensures { result ≡ is_short_value_in value.now }
 {
@@ -34,6 +35,7 @@ fn is_short_value(value: &Option<Xval>) -> bool
     }
 }
 
+/// Whether what is pushed is a list of at most `MOST_ITEMS` items.
 fn is_list_of_items(value: &Option<Xval>) -> bool
     ensures { result ≡ is_list_of_items_in value.now }
 {
@@ -43,12 +45,14 @@ fn is_list_of_items(value: &Option<Xval>) -> bool
     }
 }
 
+/// Whether the task that this one is expanded over, if any, is `source`.
 fn is_source_of(source: u32, expand: Option<u32>) -> bool
     ensures { result ≡ is_source expand source }
 {
     expand == Some(source)
 }
 
+/// Whether a task is expanded over `source`; false where there is no such task.
 #[tactic(auto, unfolding(bf_plan::specs::Plans::task_of))]
 fn is_expanded_over(dag: &Dag, task: u32, source: u32) -> bool
     ensures { result ≡ is_source (task_of dag.now task).expand source }
@@ -59,6 +63,7 @@ fn is_expanded_over(dag: &Dag, task: u32, source: u32) -> bool
     }
 }
 
+/// Whether one of these tasks is expanded over `source`.
 fn some_is_expanded_over(dag: &Dag, tasks: &[u32], source: u32) -> bool
     ensures { result ≡ list_any (λ t. is_source (task_of dag.now t).expand source) tasks.now }
 {
@@ -67,6 +72,7 @@ fn some_is_expanded_over(dag: &Dag, tasks: &[u32], source: u32) -> bool
         .any(|task| is_expanded_over(dag, *task, source))
 }
 
+/// Whether a task of the plan is expanded over this one.
 // A task that is expanded over another is a direct downstream of it, so not all tasks are looked at.
 fn is_source_of_some(plan: &Plan, task: u32) -> bool
     requires { task < length plan.now.dag.tasks }
@@ -76,6 +82,7 @@ fn is_source_of_some(plan: &Plan, task: u32) -> bool
     some_is_expanded_over(plan.dag(), downstreams, task)
 }
 
+/// Whether a task of the plan is expanded over this one, which itself isn't expanded.
 fn gives_items(plan: &Plan, task: u32) -> bool
     requires { task < length plan.now.dag.tasks }
     ensures { result ≡ gives_items_in plan.now.dag task }
@@ -83,6 +90,7 @@ fn gives_items(plan: &Plan, task: u32) -> bool
     plan.dag().task(task).expand.is_none() && is_source_of_some(plan, task)
 }
 
+/// Whether a task is no branch, or pushes only names of its direct downstreams.
 fn names_downstreams_if_branch(plan: &Plan, task: u32, value: &Option<Xval>) -> bool
     requires { task < length plan.now.dag.tasks }
     ensures { result ≡ (not (is_branch_in (task_of plan.now.dag task))
@@ -91,6 +99,8 @@ fn names_downstreams_if_branch(plan: &Plan, task: u32, value: &Option<Xval>) -> 
     !plan.dag().is_branch(task) || names_downstreams(plan.graph(), task, value.as_ref())
 }
 
+/// Whether a task may push this: it is short enough, names downstreams if the task is a branch, and is a list
+/// of items if another task is expanded over it.
 fn may_push(plan: &Plan, task: u32, value: &Option<Xval>) -> bool
     requires { task < length plan.now.dag.tasks }
     ensures { result ≡ may_push_in plan.now.dag task value.now }
@@ -100,6 +110,7 @@ fn may_push(plan: &Plan, task: u32, value: &Option<Xval>) -> bool
             && (!gives_items(plan, task) || is_list_of_items(value)))
 }
 
+/// Whether a line of output can push this: no `null`, and lists nested at most `DEEPEST` deep.
 fn is_readable_from_line(value: &Option<Xval>) -> bool
     ensures { result ≡ is_readable_from_line_in value.now }
 {
@@ -111,7 +122,7 @@ fn is_readable_from_line(value: &Option<Xval>) -> bool
 }
 
 /// Whether `grade` could give this outcome for a try of the task.
-#[tactic(auto, unfolding(crate::specs::Grades::fits))]
+#[tactic(auto, unfolding(crate::specs::Grades::fits_in))]
 pub fn fits(plan: &Plan, task: u32, outcome: &Outcome) -> bool
     requires { task < length plan.now.dag.tasks }
     ensures { result ≡ fits_in plan.now.dag task outcome.now }
@@ -122,6 +133,8 @@ pub fn fits(plan: &Plan, task: u32, outcome: &Outcome) -> bool
     }
 }
 
+/// The outcome of a try with status 0 whose output ends with this line: a success with what the line pushes, failed
+/// where the task may not push that or the line isn't UTF-8.
 fn grade_line(alloc: Global, plan: &Plan, task: u32, line: &[u8]) -> Result<Outcome, OutOfMemory>
     requires { task < length plan.now.dag.tasks }
     ensures { IfOk result (λ outcome. outcome ≡ grade_line_of plan.now.dag task line.now) }
@@ -162,19 +175,20 @@ pub fn grade(alloc: Global, plan: &Plan, task: u32, raw: &Raw) -> Result<Outcome
     }
 }
 
-/// A law: a grade fits.
+/// A law: the grade of an answer to a try fits the task of the try.
 pub fn grades_fit()
     ensures { (dag : Dag) (task : ℕ) (raw : Raw) → fits_in dag task (grade_of dag task raw)
         ≡ true }
 {}
 
-/// A law: what fits is the grade of some answer.
+/// A law: each outcome that fits a task is the grade of some answer to a try of it.
 pub fn each_fit_is_a_grade()
     ensures { (dag : Dag) (task : ℕ) (outcome : Outcome) → HasSoundValue outcome
         → fits_in dag task outcome ≡ true → (raw : Raw) × (grade_of dag task raw ≡ outcome) }
 {}
 
-/// The last line by which a program pushes this.
+/// The last line, without a line feed, by which a program pushes this value; empty for nothing. What no line can push
+/// (`is_readable_from_line`) is read otherwise from it.
 fn line_that_pushes(alloc: Global, pushed: &Option<Xval>) -> Result<Sequence<u8>, OutOfMemory>
     ensures text { IfOk result (λ line. IsUtf8 line) }
     ensures reads_back { IfOk result

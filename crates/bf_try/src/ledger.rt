@@ -59,14 +59,15 @@ impl Ledger {
         }
     }
 
-    /// What the ledger holds of a try.
+    /// What the ledger holds of a try; None where that hasn't ended.
     pub fn get(&self, name: JobName) -> Option<&Entry>
         ensures { option_copied result ≡ FinMap.get self.now name }
     {
         self.entries.get(&name)
     }
 
-    /// Notes a try that has ended. An entry that is not noted is handed back.
+    /// Notes a try that has ended. Where the try was noted before (`AlreadyRecorded`), or memory is wanting, the
+    /// entry comes back and nothing changes.
     pub fn note(&mut self, name: JobName, entry: Entry) -> Result<(), (Entry, NoteFault)>
         ensures ok { OnOk result ((FinMap.get self.old name ≡ None)
             × (self.new ≡ FinMap.insert self.old name entry)) }
@@ -85,6 +86,7 @@ impl Ledger {
     }
 }
 
+/// Whether `other`, an entry for the same try, has another given, or the same outcome; true where there is none.
 fn agrees(entry: &Entry, other: Option<&Entry>) -> bool
     ensures { IsTrue result ↔ Agree entry.now (option_copied other.entry) }
 {
@@ -96,6 +98,7 @@ fn agrees(entry: &Entry, other: Option<&Entry>) -> bool
     }
 }
 
+/// Whether each entry agrees with the other ledger: none has the same try and given with another outcome.
 fn all_agree(entries: &BTreeMap<JobName, Entry>, other: &Ledger) -> bool
     ensures all { IsTrue result
         ↔ All (λ e. Agree e.1 (FinMap.get other.now e.0)) entries.now.entries }
@@ -109,7 +112,7 @@ fn all_agree(entries: &BTreeMap<JobName, Entry>, other: &Ledger) -> bool
     true
 }
 
-/// Whether tries of one name that were given the same ended alike in both ledgers.
+/// Whether each try that both ledgers have, and that was given the same in both, has the same outcome in both.
 pub fn alike(one: &Ledger, other: &Ledger) -> bool
     ensures { IsTrue result ↔ AreAlike (FinMap.get one.now) (FinMap.get other.now) }
 {

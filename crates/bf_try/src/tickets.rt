@@ -61,12 +61,14 @@ impl Ticket {
         Ticket { name, given }
     }
 
+    /// The name of the try.
     pub fn name(&self) -> JobName
         ensures { result ≡ self.now.name }
     {
         self.name
     }
 
+    /// What the try is given.
     pub fn given(&self) -> &Given
         ensures { result.now ≡ self.now.given }
     {
@@ -83,18 +85,21 @@ impl Ticket {
 }
 
 impl Done {
+    /// The name of the try that is answered.
     pub fn name(&self) -> JobName
         ensures { result ≡ self.now.name }
     {
         self.name
     }
 
+    /// What the try was given.
     pub fn given(&self) -> &Given
         ensures { result.now ≡ self.now.given }
     {
         &self.given
     }
 
+    /// What the try answered, before it is graded.
     pub fn raw(&self) -> &Raw
         ensures { result.now ≡ self.now.raw }
     {

@@ -66,14 +66,14 @@ impl<T: Drop> Sequence<T> {
         self.items.is_empty()
     }
 
-    /// The item at an index.
+    /// The item at an index from 0; None past the end.
     pub fn get(&self, index: usize) -> Option<&T>
         ensures { option_copied result ≡ slice_get self.now index }
     {
         self.items.get(index)
     }
 
-    /// Adds an item behind the others.
+    /// Adds an item at the end.
     pub fn push(&mut self, item: T) -> Result<(), OutOfMemory>
         ensures ok { OnOk result (self.new ≡ self.old ++ item ∷ []) }
         ensures err { OnErr result (self.new ≡ self.old) }
@@ -82,7 +82,7 @@ impl<T: Drop> Sequence<T> {
         Ok(())
     }
 
-    /// Puts an item in the place of another, and hands that back.
+    /// Puts an item in the place of the one at `index`, from 0, and gives that one back.
     pub fn replace(&mut self, index: usize, item: T) -> T
         requires { index < length self.old }
         ensures was { slice_get self.old index ≡ Some result }

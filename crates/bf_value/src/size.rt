@@ -11,15 +11,15 @@ ghost use Rattle.bf_value.specs.Views.{plain_of};
 use crate::xval::{Values, Xval};
 
 impl Xval {
-    /// Whether the compact JSON text of the value, as `text_of` writes it, has at most so many bytes.
+    /// Whether the compact JSON text of the value, as `text_of` writes it, has at most `limit` bytes.
     pub fn has_text_within(&self, limit: usize) -> bool
         ensures { IsTrue result ↔ (length (json_of self.now) ≤ limit) }
     {
         room_after(limit, self).is_some()
     }
 
-    /// Whether lists nest at most so deep. A value that is no list has depth 0, and a list without a list
-    /// in it depth 1.
+    /// Whether lists nest at most `deepest` deep. A value that is no list has depth 0, and a list without a list in
+    /// it depth 1.
     #[cycle(nested)]
     pub fn is_nested_within(&self, deepest: usize) -> bool
         ensures { IsTrue result ↔ (plain_depth (plain_of self.now) ≤ deepest) }
@@ -31,6 +31,7 @@ impl Xval {
     }
 }
 
+/// Whether a list of these items is nested at most `deepest` deep.
 #[cycle(nested)]
 fn are_nested_within(values: &Values, deepest: usize) -> bool
     ensures { IsTrue result ↔ (plains_depth values.now ≤ deepest) }
@@ -46,7 +47,7 @@ fn are_nested_within(values: &Values, deepest: usize) -> bool
     true
 }
 
-/// What is left of the room after the text of a value.
+/// How many of `room` bytes the JSON text of a value leaves; None where it doesn't fit.
 #[cycle(room)]
 fn room_after(room: usize, value: &Xval) -> Option<usize>
     ensures { SomeIff result (length (json_of value.now)
@@ -61,6 +62,7 @@ fn room_after(room: usize, value: &Xval) -> Option<usize>
     }
 }
 
+/// How many of `room` bytes the JSON text of a list leaves; None where it doesn't fit.
 #[cycle(room)]
 fn room_after_list(room: usize, values: &Values) -> Option<usize>
     ensures { SomeIff result (length (list_text values.now)
@@ -77,6 +79,7 @@ fn room_after_list(room: usize, values: &Values) -> Option<usize>
     Some(left)
 }
 
+/// How many of `room` bytes a text in JSON's quotes leaves, its escapes counted; None where it doesn't fit.
 fn room_after_text(room: usize, text: &str) -> Option<usize>
     ensures { SomeIff result (length (quoted text.now) ≤ room) (room - length (quoted text.now)) }
 {
@@ -87,6 +90,7 @@ fn room_after_text(room: usize, text: &str) -> Option<usize>
     Some(left)
 }
 
+/// Whether JSON escapes this byte by a backslash and one letter.
 fn has_short_escape(byte: u8) -> bool
     ensures { result ≡ nat_lt 0 (escape_letter byte) }
 {
@@ -96,6 +100,7 @@ fn has_short_escape(byte: u8) -> bool
     )
 }
 
+/// How many bytes JSON writes for this byte of a text: 1, 2 or 6.
 #[tactic(auto, using(crate::proofs::SizeLemmas::escape_lengths))]
 fn escaped_len(byte: u8) -> usize
     ensures { result ≡ length (escape_byte byte) }
@@ -109,6 +114,7 @@ fn escaped_len(byte: u8) -> usize
     }
 }
 
+/// How many characters the decimal text of a number has, its sign too.
 fn integer_len(n: i64) -> usize
     ensures { result ≡ length (signed_decimal n) }
 {
@@ -116,6 +122,7 @@ fn integer_len(n: i64) -> usize
     if n < 0 { digits + 1 } else { digits }
 }
 
+/// How many decimal digits a number has.
 fn digit_count(n: u64) -> usize
     ensures digits { result ≡ length (decimal n) }
     ensures few { result ≤ 20 }

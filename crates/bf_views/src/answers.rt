@@ -13,7 +13,8 @@ use bf_disk::Source;
 use bf_input::read_report_file;
 use std::alloc::Global;
 
-/// Reads a report, and writes the table of answers over which a dry backfill has it again. No graph is asked for.
+/// Does the command `answers`: reads the report at `path`, and writes the table of answers over which a dry backfill
+/// makes it again. No graph file is read.
 pub fn answer_answers<S: Source, W: Write>(
     alloc: Global,
     path: String,

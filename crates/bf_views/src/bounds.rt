@@ -15,6 +15,7 @@ pub(crate) struct Bounds {
     pub(crate) to: Option<Timestamp>,
 }
 
+/// The moment in a text; None where there is no text. A fault where the text is no moment.
 fn optional_moment(text: &Option<String>) -> Result<Option<Timestamp>, CommandFault>
     ensures means { IfOk result (MeansIfGiven text.now) }
     ensures bad { IfErr result (λ f. (f ≡ CommandFault.BadMoment) × IsNoMomentIfGiven text.now) }
@@ -29,7 +30,7 @@ fn optional_moment(text: &Option<String>) -> Result<Option<Timestamp>, CommandFa
 }
 
 impl Bounds {
-    /// Those that a line asks for.
+    /// The bounds that a command line asks for. A fault where one of them is no moment.
     pub(crate) fn of(asked: &ShowAsked) -> Result<Bounds, CommandFault>
         ensures means { IfOk result (MeansBounds asked.now) }
         ensures bad { IfErr result (λ f. (f ≡ CommandFault.BadMoment) × HasNoBound asked.now) }
@@ -39,6 +40,7 @@ impl Bounds {
         Ok(Bounds { from, to })
     }
 
+    /// Whether the last moment is before the first; false where one of them isn't given.
     fn is_reversed(&self) -> bool
         ensures { result ≡ is_reversed_in self.now }
     {
@@ -48,7 +50,7 @@ impl Bounds {
         }
     }
 
-    /// Refuses those of which the first lies after the last.
+    /// Refuses bounds whose last moment is before the first.
     pub(crate) fn refuse_reversed(&self) -> Result<(), CommandFault>
         ensures ok { OnOk result (is_reversed_in self.now ≡ false) }
         ensures err { IfErr result (λ f.

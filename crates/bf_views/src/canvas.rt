@@ -16,7 +16,7 @@ pub struct Canvas {
     pub colored: bool,
 }
 
-/// The width that a text says, where it is one of a grid.
+/// The width that a text says; None where it isn't a whole number from 20 to 10,000.
 fn width_said(text: &str) -> Option<u32>
     ensures some { IfSome result (λ width. SaysColumns text.now × (width ≡ columns_said text.now)) }
     ensures none { IfNone result (SaysColumns text.now → ⊥) }
@@ -27,6 +27,7 @@ fn width_said(text: &str) -> Option<u32>
     }
 }
 
+/// The width that COLUMNS says; 80 where it isn't set or no whole number from 20 to 10,000.
 fn width_by(columns: Option<&str>) -> u32
     ensures { IsWidthBy (option_map (λ c. c.now) columns.entry) result }
 {
@@ -39,6 +40,7 @@ fn width_by(columns: Option<&str>) -> u32
     }
 }
 
+/// Whether a grid has colours: on a terminal, unless NO_COLOR says something or TERM is `dumb`.
 fn has_colors(is_terminal: bool, no_color: Option<&str>, term: Option<&str>) -> bool
     ensures { result ≡ has_colors_in is_terminal (option_map (λ c. c.now) no_color.entry)
         (option_map (λ t. t.now) term.entry) }
@@ -47,8 +49,8 @@ fn has_colors(is_terminal: bool, no_color: Option<&str>, term: Option<&str>) -> 
 }
 
 impl Canvas {
-    /// By what the variables COLUMNS, NO_COLOR and TERM say, where they are set: as wide as COLUMNS, where that is a number from 20 to
-    /// 10,000, and else 80; a terminal has colours where NO_COLOR is missing or empty and TERM isn't `dumb`.
+    /// The canvas by COLUMNS, NO_COLOR and TERM where they are set: as wide as COLUMNS, if that is from 20 to 10,000,
+    /// and else 80; coloured on a terminal where NO_COLOR is missing or empty and TERM isn't `dumb`.
     pub fn of(
         is_terminal: bool,
         columns: Option<&str>,

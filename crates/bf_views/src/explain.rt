@@ -26,6 +26,7 @@ use bf_value::{OutOfMemory, Text};
 use jiff::Timestamp;
 use std::alloc::Global;
 
+/// A copy of a path; None where none is named.
 fn text_if_named(alloc: Global, path: &Option<String>) -> Result<Option<Text>, OutOfMemory>
     ensures { IfOk result (λ text. text ≡ option_map string_bytes path.now) }
 {
@@ -35,6 +36,7 @@ fn text_if_named(alloc: Global, path: &Option<String>) -> Result<Option<Text>, O
     }
 }
 
+/// The paths of the graph, the report and the zone file, None where none is named, as a command line has them.
 fn paths_of(alloc: Global, asked: &ExplainAsked) -> Result<Paths, OutOfMemory>
     ensures { IfOk result (λ paths. paths ≡ paths_asked asked.now) }
 {
@@ -45,13 +47,14 @@ fn paths_of(alloc: Global, asked: &ExplainAsked) -> Result<Paths, OutOfMemory>
     })
 }
 
+/// The number of the task asked for by its id; None where the plan has no such task.
 fn task_number_of(plan: &Plan, task: &TaskAsked) -> Option<u32>
     ensures { result ≡ task_number plan.now.dag task.now }
 {
     plan.graph().number_of(task.id.as_str())
 }
 
-/// The number of the run that starts at a moment.
+/// The number of the run of a report that starts at a moment, 0 for the first; None where none does.
 fn run_number_at(report: &Report, start: Timestamp) -> Option<usize>
     ensures { result ≡ run_number report.now start.nanosecond }
 {
@@ -62,7 +65,8 @@ fn run_number_at(report: &Report, start: Timestamp) -> Option<usize>
         .position(|run| run.interval.start == start)
 }
 
-/// The text on a run.
+/// The text that explains the run that starts at a moment. A fault where none does, or the report isn't of this
+/// graph.
 fn explain_run_at(
     alloc: Global,
     paths: &Paths,
@@ -84,7 +88,8 @@ fn explain_run_at(
     Ok(explain_run(alloc, plan, told_run, order.as_slice())?)
 }
 
-/// The text on a task in a run.
+/// The text that explains a task in the run that starts at a moment. A fault where there is no such task, run or map
+/// index, or the report isn't of this graph.
 fn explain_task_at(
     alloc: Global,
     paths: &Paths,
@@ -116,6 +121,8 @@ fn explain_task_at(
     )?)
 }
 
+/// The text that explains a task in the run that starts at a moment, or the run where `task` is None. A fault where
+/// what is asked for isn't there, or the report isn't of this graph.
 fn explain_run_or_task(
     alloc: Global,
     paths: &Paths,
@@ -136,8 +143,8 @@ fn explain_run_or_task(
     }
 }
 
-/// Looks at the moment of the run first; reads the graph file, the zone file where one is named, and checks the graph; then reads the
-/// report, looks for what is asked about, and writes the text. The report may be one of `single`, and of any range.
+/// Does the command `explain`: checks the run's moment, reads the files and checks the graph, reads the report, and
+/// writes why a task or a run has its state. The report may be of `single`, and of any range.
 pub fn answer_explain<S: Source, W: Write>(
     alloc: Global,
     asked: ExplainAsked,

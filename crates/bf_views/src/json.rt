@@ -12,7 +12,8 @@ use bf_input::read_report_file;
 use bf_show::write_json_lines;
 use std::alloc::Global;
 
-/// Reads a report, and writes a line for each task instance that it tells of. No graph is asked for.
+/// Does the command `show --json`: reads the report at `path`, and writes a line of JSON for each task instance in
+/// it. No graph file is read.
 pub fn answer_show_json<S: Source, W: Write>(
     alloc: Global,
     path: String,

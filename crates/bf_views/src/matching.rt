@@ -13,6 +13,7 @@ use bf_report::{Report, RunReport};
 use bf_value::OutOfMemory;
 use std::alloc::Global;
 
+/// The data intervals of these runs, in order.
 pub(crate) fn intervals_of(alloc: Global, runs: &[RunReport]) -> Result<Vec<Interval>, OutOfMemory>
     ensures { IfOk result (λ intervals. intervals.items ≡ intervals_in runs.now) }
 {
@@ -23,7 +24,7 @@ pub(crate) fn intervals_of(alloc: Global, runs: &[RunReport]) -> Result<Vec<Inte
     Ok(intervals)
 }
 
-/// Refuses a report that isn't one of a graph. Its data intervals may be any.
+/// Refuses a report whose dag id, tasks or pulls aren't this graph's. Its data intervals may be any.
 pub(crate) fn refuse_other_graph(
     alloc: Global,
     dag: &Dag,

@@ -28,8 +28,8 @@ use std::marker::Model;
 /// How many bytes of a report stand on a page; a longer one is left out.
 const LONGEST_REPORT: usize = 134_217_728;
 
-/// What a line asks for, kept while its files are read: the paths as they stand there, of which the zone file's is empty where
-/// there is none, and whether only the states are shown.
+/// What a line asks for, kept while its files are read: the paths as they stand there, of which the zone file's is
+/// empty where there is none, and whether only the states are shown.
 #[derive(Drop)]
 struct Words {
     graph: Text,
@@ -54,6 +54,7 @@ impl Model for Words {
     } };
 }
 
+/// A copy of a path; empty where none is named.
 fn text_or_empty(alloc: Global, path: &Option<String>) -> Result<Text, OutOfMemory>
     ensures { IfOk result (λ text. text ≡ unwrap_or (option_map string_bytes path.now) []) }
 {
@@ -64,6 +65,8 @@ fn text_or_empty(alloc: Global, path: &Option<String>) -> Result<Text, OutOfMemo
 }
 
 impl Words {
+    /// What a command line puts on its page: the paths, the zone file's empty where none is named, and whether the
+    /// report is left out.
     fn of(alloc: Global, asked: &PageAsked) -> Result<Words, OutOfMemory>
         ensures { IfOk result (λ words. words ≡ words_asked asked.now) }
     {
@@ -75,7 +78,8 @@ impl Words {
         })
     }
 
-    /// The bytes of a report as they stand on the page.
+    /// The bytes of a report that go on the page: none where only states are shown or there are more than
+    /// 134,217,728.
     fn report_as_shown<'a>(&self, report: &'a [u8]) -> &'a [u8]
         ensures { result.now ≡ report_shown self.now.states_only report.entry.now }
     {
@@ -87,7 +91,8 @@ impl Words {
     }
 }
 
-/// Writes the page of a plan's graph file and of a report of it, with these times.
+/// Writes the page of a report beside its plan and graph file. `times` is the text of a journal's times, empty for
+/// none. OutOfMemory also where the page is too long to count.
 fn write_report_page<W: Write>(
     alloc: Global,
     words: &Words,
@@ -125,8 +130,9 @@ fn write_report_page<W: Write>(
     Ok(())
 }
 
-/// Reads the graph file, the zone file where one is named, and checks the graph; then reads the report, and the journal where one is
-/// named, and writes the page. The report may be one of `single`, and of any range.
+/// Does the command `page`: reads the files and checks the graph, reads the report, and the journal where one is
+/// named, and writes the page. Refuses a report or a journal of another graph. The report may be of `single`, and of
+/// any range.
 pub fn answer_page<S: Source, W: Write>(
     alloc: Global,
     asked: PageAsked,

@@ -20,7 +20,8 @@ pub(crate) struct Planned {
     pub(crate) plan: Plan,
 }
 
-/// Reads the graph file, and the zone file where one is named, and then checks the graph.
+/// Reads the graph file, and the zone file where one is named, and checks the graph. A fault where a file can't be
+/// read, or the graph has one.
 pub(crate) fn read_plan<S: Source>(
     alloc: Global,
     asked: GraphAsked,

@@ -23,6 +23,7 @@ use bf_plan::Plan;
 use bf_report::Report;
 use std::alloc::Global;
 
+/// Whether a grid has colours: as the command line says, or where it says `auto` as the canvas has it.
 fn is_colored(color: Color, canvas: Canvas) -> bool
     ensures { result ≡ is_colored_in color canvas.colored }
 {
@@ -33,6 +34,8 @@ fn is_colored(color: Color, canvas: Canvas) -> bool
     }
 }
 
+/// What a grid shows and how: as the command line says, within its bounds; width and colours where it doesn't say are
+/// the canvas's.
 fn view_of(asked: &ShowAsked, bounds: &Bounds, canvas: Canvas) -> View
     ensures { result ≡ view_asked asked.now bounds.now canvas }
 {
@@ -45,6 +48,7 @@ fn view_of(asked: &ShowAsked, bounds: &Bounds, canvas: Canvas) -> View
     }
 }
 
+/// Writes the grid of a report beside its plan, as a view has it.
 fn write_viewed<W: Write>(
     alloc: Global,
     view: &View,
@@ -64,8 +68,8 @@ fn write_viewed<W: Write>(
     Ok(())
 }
 
-/// Looks at the moments first; reads the graph file, the zone file where one is named, and checks the graph; then reads the report, and
-/// writes the grid. The report may be one of `single`, and of any range. What the line doesn't say of width and colours the canvas has.
+/// Does the command `show`: checks the moments, reads the files and checks the graph, reads the report, and writes
+/// the grid. The report may be of any range. Width and colours are the command line's, or else the canvas's.
 pub fn answer_show<S: Source, W: Write>(
     alloc: Global,
     asked: ShowAsked,

@@ -17,7 +17,7 @@ use bf_times::times_of;
 use bf_value::OutOfMemory;
 use std::alloc::Global;
 
-/// The runs of a report that was read.
+/// The runs over the data intervals of a report.
 fn runs_of(alloc: Global, report: &Report) -> Result<Runs, OutOfMemory>
     requires { IsShownReport report.now }
     ensures { IfOk result (λ runs. runs ≡ intervals_in report.now.runs) }
@@ -26,7 +26,8 @@ fn runs_of(alloc: Global, report: &Report) -> Result<Runs, OutOfMemory>
     Ok(Runs::from_intervals(intervals))
 }
 
-/// The times of a journal where there is one.
+/// The text of the times in a journal with these bytes; empty where there is no journal. A fault where it isn't of
+/// this plan and the report's runs.
 fn times_in(
     alloc: Global,
     plan: &Plan,
@@ -49,7 +50,8 @@ fn times_in(
     }
 }
 
-/// Reads the journal where one is named, and makes the times of its tries.
+/// Reads the journal at `path`, and gives the text of the times of its tries; empty where no journal is named. A
+/// fault where it can't be read, or isn't of this plan and the report's runs.
 pub(crate) fn read_times<S: Source>(
     alloc: Global,
     path: Option<String>,

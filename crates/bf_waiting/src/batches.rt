@@ -54,7 +54,7 @@ impl Batches {
         }
     }
 
-    /// Makes room for so many more.
+    /// Makes room for so many more batches.
     pub(crate) fn make_room(&mut self, more: usize) -> Result<(), OutOfMemory>
         ensures same { self.new.items ≡ self.old.items }
         ensures grown { self.old.room ≤ self.new.room }
@@ -64,7 +64,7 @@ impl Batches {
         Ok(())
     }
 
-    /// The greatest.
+    /// The greatest batch, whose first try begins before all others; None where there is none.
     pub(crate) fn first(&self) -> Option<Batch>
         ensures top { result ≡ slice_get self.now.items 0 }
         ensures one { IfSome result (λ x. Contains self.now.items x) }
@@ -78,7 +78,7 @@ impl Batches {
         }
     }
 
-    /// Adds one, for which there is room.
+    /// Adds a batch, for which there is room.
     pub(crate) fn add(&mut self, batch: Batch)
         requires { length self.old.items + 1 ≤ self.old.room }
         ensures gained { IsPermutation (batch ∷ self.old.items) self.new.items }
@@ -91,7 +91,7 @@ impl Batches {
         }
     }
 
-    /// Takes the greatest out.
+    /// Takes out the greatest batch; None where there is none.
     pub(crate) fn take_first(&mut self) -> Option<Batch>
         ensures top { result ≡ slice_get self.old.items 0 }
         ensures lost { IfSome result (λ x. IsPermutation self.old.items (x ∷ self.new.items)) }

@@ -49,7 +49,7 @@ impl Model for SlotClass {
     ghost invariant = { λ c. IsRoomy c.batches c.delays };
 }
 
-/// The batch of one instance.
+/// A batch of one instance of a task in a run, at `place`, from 0. `weights` has the total weight of each task.
 fn batch_of_one(weights: &[u32], run: u32, task: u32, place: u32) -> Batch
     ensures { result ≡ batch_of weights.now run task place }
 {
@@ -62,7 +62,8 @@ fn batch_of_one(weights: &[u32], run: u32, task: u32, place: u32) -> Batch
     }
 }
 
-/// The batch of the first instances, to one at a place.
+/// A batch of a task's first instances in a run, up to the one at `place`, from 0, this one included. `weights` has
+/// the total weight of each task.
 fn batch_to_place(weights: &[u32], run: u32, task: u32, place: usize) -> Batch
     requires { place ≤ 1_024 }
     ensures { result ≡ batch_to weights.now run task place }
@@ -73,13 +74,14 @@ fn batch_to_place(weights: &[u32], run: u32, task: u32, place: usize) -> Batch
     }
 }
 
-/// Lets the delays be batches whose moment has come.
+/// Moves the delays whose moment is at most `now`, in seconds since 1970, to the batches, each as one of its own.
+/// `weights` has the total weight of each task.
 fn batch_due_delays(batches: &mut Batches, delays: &mut Delays, weights: &[u32], now: i64)
     requires { IsRoomy batches.old delays.old }
     ensures roomy { IsRoomy batches.new delays.new }
     ensures released { AreReleased now weights.now batches.old.items delays.old.items
         batches.new.items delays.new.items }
-    ensures later { (d : Delay) → Contains delays.new.items d → now <ℤ Delay.moment.0 }
+    ensures later { (d : Delay) → Contains delays.new.items d → now <ℤ d.moment.0 }
 {
     while let Some(delay) = delays.first() {
         if now < delay.moment.0 {
@@ -90,7 +92,8 @@ fn batch_due_delays(batches: &mut Batches, delays: &mut Delays, weights: &[u32],
     }
 }
 
-/// The first instance of a batch that is ready, by its place.
+/// The place, from 0, of the first instance of a batch that waits for nothing but room in its pool; None where none
+/// does.
 fn first_ready(core: &Core<'_>, batch: Batch) -> Option<u32>
     ensures ready { IfSome result (λ i. IsReadyAt core.now batch.run.0 batch.task.0 i) }
     ensures within { IfSome result (λ i. (batch.first.0 ≤ i) × (i ≤ batch.last)) }
@@ -107,7 +110,8 @@ fn first_ready(core: &Core<'_>, batch: Batch) -> Option<u32>
     None
 }
 
-/// Passes over the first instances of the greatest batches until one is ready.
+/// Takes instances that aren't ready off the front of the batches, until the greatest batch begins with a ready one
+/// or none is left. A ready instance waits for nothing but room in its pool.
 fn pass_over_unready(batches: &mut Batches, core: &Core<'_>)
     requires { length batches.old.items ≤ batches.old.room }
     ensures cleaned { IsCleaned core.now batches.old.items batches.new.items }
@@ -130,7 +134,7 @@ fn pass_over_unready(batches: &mut Batches, core: &Core<'_>)
 }
 
 impl SlotClass {
-    /// A class of which nothing waits.
+    /// A class, of the tasks that take the same slots as this one, of which nothing waits.
     pub(crate) fn new(alloc: Global, task: u32) -> SlotClass
         ensures task { result.task ≡ task }
         ensures batches { result.batches.items ≡ [] }
@@ -143,7 +147,7 @@ impl SlotClass {
         }
     }
 
-    /// The greatest of its batches.
+    /// The greatest of its batches; None where it has none.
     pub(crate) fn first(&self) -> Option<Batch>
         ensures top { result ≡ slice_get self.now.batches.items 0 }
         ensures first { IfSome result (λ x. (y : Batch) → Contains self.now.batches.items y
@@ -152,12 +156,13 @@ impl SlotClass {
         self.batches.first()
     }
 
-    /// The earliest of the moments for which its instances wait.
+    /// The earliest of the moments for which its instances wait, in seconds since 1970; None where none waits for
+    /// one.
     pub(crate) fn earliest_moment(&self) -> Option<i64>
         ensures one { IfSome result (λ m. (d : Delay) × Contains self.now.delays.items d
-            × (Delay.moment.0 ≡ m)) }
+            × (d.moment.0 ≡ m)) }
         ensures first { IfSome result (λ m. (d : Delay) → Contains self.now.delays.items d
-            → m ≤ℤ Delay.moment.0) }
+            → m ≤ℤ d.moment.0) }
         ensures none { IfNone result (self.now.delays.items ≡ []) }
     {
         match self.delays.first() {
@@ -197,17 +202,19 @@ impl SlotClass {
         self.delays.add(delay);
     }
 
-    /// Lets the instances be ready whose moment has come.
+    /// Moves the instances whose moment is at most `now`, in seconds since 1970, from the delays to the batches.
+    /// `weights` has the total weight of each task.
     fn batch_due_delays(&mut self, weights: &[u32], now: i64)
         ensures task { self.new.task ≡ self.old.task }
         ensures released { AreReleased now weights.now self.old.batches.items self.old.delays.items
             self.new.batches.items self.new.delays.items }
-        ensures later { (d : Delay) → Contains self.new.delays.items d → now <ℤ Delay.moment.0 }
+        ensures later { (d : Delay) → Contains self.new.delays.items d → now <ℤ d.moment.0 }
     {
         batch_due_delays(&mut self.batches, &mut self.delays, weights, now);
     }
 
-    /// Passes over the first instances of the greatest batches until one is ready.
+    /// Takes instances that aren't ready off the front of its batches, until the greatest batch begins with a ready
+    /// one or none is left. A ready instance waits for nothing but room in its pool.
     fn pass_over_unready(&mut self, core: &Core<'_>)
         ensures task { self.new.task ≡ self.old.task }
         ensures cleaned { IsCleaned core.now self.old.batches.items self.new.batches.items }
@@ -216,7 +223,7 @@ impl SlotClass {
         pass_over_unready(&mut self.batches, core);
     }
 
-    /// Takes up all instances that a task has in a run, as one batch; those of them that are delayed aren't ready in it.
+    /// Adds all instances that a task has in a run as one batch, in which the delayed ones aren't ready.
     fn batch_all(&mut self, core: &Core<'_>, weights: &[u32], run: u32, task: u32)
         requires { HasRoom self.old }
         ensures task { self.new.task ≡ self.old.task }
@@ -230,7 +237,8 @@ impl SlotClass {
         }
     }
 
-    /// Takes up the instance at a place.
+    /// Adds the instance at `place`, from 0, of a task in a run: to the batches where it waits for nothing but room
+    /// in its pool, to the delays where it waits for a later moment, else to neither.
     fn take_up_instance(
         &mut self,
         core: &Core<'_>,
@@ -258,7 +266,7 @@ impl SlotClass {
         }
     }
 
-    /// Takes up the instance at a place where it is delayed.
+    /// Adds the instance at `place`, from 0, of a task in a run to the delays, where it waits for a later moment.
     fn delay_instance(
         &mut self,
         core: &Core<'_>,
@@ -283,7 +291,7 @@ impl SlotClass {
         Ok(())
     }
 
-    /// Takes up the delayed instances that a task has in a run.
+    /// Adds the delayed instances that a task has in a run to the delays.
     fn delay_all(&mut self, core: &Core<'_>, run: u32, task: u32) -> Result<(), OutOfMemory>
         ensures task { self.new.task ≡ self.old.task }
         ensures batches { self.new.batches.items ≡ self.old.batches.items }
@@ -297,7 +305,7 @@ impl SlotClass {
         Ok(())
     }
 
-    /// Takes up all instances that a task has in a run.
+    /// Adds all instances that a task has in a run, to the batches and, where delayed, to the delays.
     pub(crate) fn take_up_all(
         &mut self,
         core: &Core<'_>,
@@ -317,7 +325,7 @@ impl SlotClass {
 }
 
 impl SlotClass {
-    /// After a task is decided.
+    /// Keeps what waits up to date after a task of the class was decided in a run.
     pub(crate) fn on_decision(&mut self, core: &Core<'_>, weights: &[u32], run: u32, task: u32)
         requires { HasRoom self.old }
         ensures task { self.new.task ≡ self.old.task }
@@ -329,7 +337,7 @@ impl SlotClass {
         self.pass_over_unready(core);
     }
 
-    /// After a try began.
+    /// Keeps what waits up to date after a try of the class began.
     pub(crate) fn on_begin(&mut self, core: &Core<'_>)
         ensures task { self.new.task ≡ self.old.task }
         ensures keeps { (n : JobName) (weights class_of : List ℕ) (class : ℕ)
@@ -338,7 +346,7 @@ impl SlotClass {
         self.pass_over_unready(core);
     }
 
-    /// After a try of the instance at a place ended.
+    /// Keeps what waits up to date after a try of the instance at `place`, from 0, of a task in a run ended.
     pub(crate) fn on_end(
         &mut self,
         core: &Core<'_>,
@@ -357,7 +365,7 @@ impl SlotClass {
         self.pass_over_unready(core);
     }
 
-    /// After the clock moved.
+    /// Keeps what waits up to date after the clock moved to `now`, in seconds since 1970.
     pub(crate) fn on_tick(&mut self, core: &Core<'_>, weights: &[u32], now: i64)
         ensures task { self.new.task ≡ self.old.task }
         ensures keeps { (class_of : List ℕ) (class : ℕ)

@@ -59,7 +59,7 @@ impl Delays {
         self.heap.len()
     }
 
-    /// Makes room for so many more.
+    /// Makes room for so many more delays.
     pub(crate) fn make_room(&mut self, more: usize) -> Result<(), OutOfMemory>
         ensures same { self.new.items ≡ self.old.items }
         ensures grown { self.old.room ≤ self.new.room }
@@ -69,7 +69,7 @@ impl Delays {
         Ok(())
     }
 
-    /// One of the earliest moment.
+    /// A delay of the earliest moment, if there is one.
     pub(crate) fn first(&self) -> Option<Delay>
         ensures top { result ≡ slice_get self.now.items 0 }
         ensures one { IfSome result (λ x. Contains self.now.items x) }
@@ -83,7 +83,7 @@ impl Delays {
         }
     }
 
-    /// Adds one, for which there is room.
+    /// Adds a delay, for which there is room.
     pub(crate) fn add(&mut self, delay: Delay)
         requires { length self.old.items + 1 ≤ self.old.room }
         ensures gained { IsPermutation (delay ∷ self.old.items) self.new.items }
@@ -96,7 +96,7 @@ impl Delays {
         }
     }
 
-    /// Takes out the one that is at hand.
+    /// Takes out the delay that `first` gives; None where there is none.
     pub(crate) fn take_first(&mut self) -> Option<Delay>
         ensures top { result ≡ slice_get self.old.items 0 }
         ensures lost { IfSome result (λ x. IsPermutation self.old.items (x ∷ self.new.items)) }

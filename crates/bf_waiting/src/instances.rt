@@ -18,7 +18,7 @@ pub(crate) enum Standing {
     Delayed(i64),
 }
 
-/// The instances of a cell.
+/// The instances of a cell by map index; empty where its task got none.
 fn instances_in(cell: &Cell) -> &[Instance]
     ensures instances { result.now ≡ instances_of cell.now }
     ensures few { IsFew cell.now → length result.now ≤ 1_024 }
@@ -29,7 +29,8 @@ fn instances_in(cell: &Cell) -> &[Instance]
     }
 }
 
-/// The instances that a task has in a run.
+/// The instances that a task has in a run, by map index; empty where it has none, and where the run or the task isn't
+/// there.
 #[tactic(auto, using(crate::proofs::Places::beyond_none))]
 pub fn instances_of<'c>(core: &'c Core<'_>, run: u32, task: u32) -> &'c [Instance]
     ensures instances { result.now ≡ instances_of (cell_at core.now.state run task) }
@@ -42,7 +43,8 @@ pub fn instances_of<'c>(core: &'c Core<'_>, run: u32, task: u32) -> &'c [Instanc
     }
 }
 
-/// How an instance that is there stands.
+/// Whether the instance at `place`, from 0, of a task in a run waits for nothing but room in its pool, waits for a
+/// later moment, or doesn't wait.
 fn standing_of(core: &Core<'_>, run: u32, task: u32, place: u32, instance: &Instance) -> Standing
     requires few { place ≤ 1_024 }
     requires held { instance_of (cell_at core.now.state run task) place ≡ Some instance.now }
@@ -64,7 +66,8 @@ fn standing_of(core: &Core<'_>, run: u32, task: u32, place: u32, instance: &Inst
     }
 }
 
-/// How the instance at a place stands.
+/// Whether the instance at `place`, from 0, of a task in a run waits for nothing but room in its pool or for a later
+/// moment; `Away` where it doesn't wait, or isn't there.
 pub(crate) fn standing_at(core: &Core<'_>, run: u32, task: u32, place: u32) -> Standing
     ensures { Stands core.now run task place result }
 {
@@ -74,7 +77,8 @@ pub(crate) fn standing_at(core: &Core<'_>, run: u32, task: u32, place: u32) -> S
     }
 }
 
-/// Whether the instance at a place waits for nothing but room in its pool.
+/// Whether the instance at `place`, from 0, of a task in a run waits for nothing but room in its pool; false where
+/// there is no such instance.
 pub(crate) fn is_ready(core: &Core<'_>, run: u32, task: u32, place: u32) -> bool
     ensures { IsTrue result ↔ IsReadyAt core.now run task place }
 {

@@ -50,7 +50,8 @@ fn take_same_slots(plan: &Plan, one: u32, other: u32) -> bool
     one.pool == other.pool && one.slots == other.slots
 }
 
-/// The first class of these whose tasks take what a task takes.
+/// The place, from 0, of the first class whose tasks take as many slots of the same pool as this one; None where
+/// there is none. No clause says that it is the first, or when it is None.
 fn find_class_for(plan: &Plan, classes: &[SlotClass], task: u32) -> Option<usize>
     requires task { task < length plan.now.dag.tasks }
     requires empty { AreEmpty plan.now.dag classes.now }
@@ -64,7 +65,8 @@ fn find_class_for(plan: &Plan, classes: &[SlotClass], task: u32) -> Option<usize
     None
 }
 
-/// The place of the class of a task, which is added where it isn't there.
+/// The place in `classes`, from 0, of the class of a task, whose tasks take as many slots of the same pool. Adds a
+/// class where none fits.
 fn find_or_add_class(
     alloc: Global,
     plan: &Plan,
@@ -89,7 +91,7 @@ fn find_or_add_class(
 }
 
 impl Waiting {
-    /// The tries of a core that wait.
+    /// What waits in a core now: the tries that wait for a worker, for room in a pool, or for a moment.
     pub fn new(alloc: Global, core: &Core<'_>) -> Result<Waiting, OutOfMemory>
         ensures { IfOk result (λ w. KeepsTries core.now w) }
     {
@@ -119,7 +121,7 @@ impl Waiting {
         })
     }
 
-    /// Takes up what waits in a core.
+    /// Adds all that waits in a core.
     fn fill(&mut self, core: &Core<'_>) -> Result<(), OutOfMemory>
         requires { AreFilled core.now self.old 0 0 }
         ensures { OnOk result (KeepsTries core.now self.new) }
@@ -131,7 +133,7 @@ impl Waiting {
         Ok(())
     }
 
-    /// Takes up what waits in a run.
+    /// Adds all that waits in a run.
     fn fill_run(&mut self, core: &Core<'_>, run: u32) -> Result<(), OutOfMemory>
         requires { AreFilled core.now self.old run 0 }
         ensures { OnOk result (AreFilled core.now self.new (run + 1) 0) }
@@ -143,7 +145,7 @@ impl Waiting {
         Ok(())
     }
 
-    /// Takes up what waits of a task in a run.
+    /// Adds all that waits of a task in a run.
     fn fill_task(&mut self, core: &Core<'_>, run: u32, task: u32) -> Result<(), OutOfMemory>
         requires task { task < length core.now.dag.tasks }
         requires filled { AreFilled core.now self.old run task }
@@ -158,7 +160,7 @@ impl Waiting {
         }
     }
 
-    /// The place of a task's class.
+    /// The place of the class of a task, from 0; None where there is no such task or class.
     fn class_at(&self, task: u32) -> Option<usize>
         ensures some { IfSome result (λ j. (j ≡ slice_index self.now.class_of.items task)
             × (j < length self.now.classes.items) × (task < length self.now.class_of.items)) }
@@ -183,7 +185,7 @@ fn has_room(core: &Core<'_>, task: u32) -> bool
     (task as usize) < tasks && core.has_room(task)
 }
 
-/// The greater of two batches.
+/// The greater of two batches, of which either may be missing; None where both are.
 fn greater_batch(best: Option<Batch>, found: Option<Batch>) -> Option<Batch>
     ensures { IsLeading best found result }
 {
@@ -194,7 +196,7 @@ fn greater_batch(best: Option<Batch>, found: Option<Batch>) -> Option<Batch>
     }
 }
 
-/// The greatest batch of a class, where that has room.
+/// The greatest batch of a class; None where it has none, or the pool has no room for its tasks.
 fn first_batch_with_room(core: &Core<'_>, class: &SlotClass) -> Option<Batch>
     ensures some { IfSome result (λ x. MayTake core.now class.now
         × (Some x ≡ slice_get class.now.batches.items 0)) }
@@ -210,7 +212,7 @@ fn first_batch_with_room(core: &Core<'_>, class: &SlotClass) -> Option<Batch>
     }
 }
 
-/// The greatest batch of the classes that have room.
+/// The greatest batch of those classes whose pools have room for their tasks; None where these have none.
 fn greatest_batch_of(classes: &[SlotClass], core: &Core<'_>) -> Option<Batch>
     ensures { IsBestOf core.now classes.now result }
 {
@@ -221,7 +223,7 @@ fn greatest_batch_of(classes: &[SlotClass], core: &Core<'_>) -> Option<Batch>
     best
 }
 
-/// The present try of the first instance of a batch.
+/// The present try of the first instance of a batch; None where that isn't there.
 fn first_try_of_batch(core: &Core<'_>, batch: Batch) -> Option<JobName>
     ensures { IsTryOfBatch core.now batch result }
 {
@@ -231,7 +233,7 @@ fn first_try_of_batch(core: &Core<'_>, batch: Batch) -> Option<JobName>
     Some(name_of(dag, batch.run.0, batch.task.0, place, instance.attempt))
 }
 
-/// The earlier of two moments.
+/// The earlier of two moments, of which either may be missing; None where both are.
 pub fn earlier_moment(soonest: Option<i64>, found: Option<i64>) -> Option<i64>
     ensures { result ≡ earlier_moment_of soonest found }
 {
@@ -242,7 +244,7 @@ pub fn earlier_moment(soonest: Option<i64>, found: Option<i64>) -> Option<i64>
     }
 }
 
-/// The earliest of the moments of the classes.
+/// The earliest of the moments for which tries of these classes wait; None where none waits for one.
 fn earliest_moment_of(classes: &[SlotClass]) -> Option<i64>
     ensures { IsSoonestOf classes.now result }
 {
@@ -255,7 +257,7 @@ fn earliest_moment_of(classes: &[SlotClass]) -> Option<i64>
 
 impl Waiting {
     /// The try that begins next: of those that may begin now the one of the greatest total weight, and of several the
-    /// first by run, in the order of the file and by map index.
+    /// first by run, in the order of the file and by map index. None where none may begin now.
     pub fn next_try(&self, core: &Core<'_>) -> Option<JobName>
         ensures { KeepsTries core.now self.now → IsNextTry core.now result }
     {
@@ -265,7 +267,7 @@ impl Waiting {
         }
     }
 
-    /// The least of the later moments for which tries wait, in seconds since 1970.
+    /// The least of the later moments for which tries wait, in seconds since 1970; None where none waits for one.
     pub fn next_moment(&self) -> Option<i64>
         ensures { (b : Backfill) → KeepsTries b self.now → IsNextMoment b result }
     {
@@ -273,7 +275,8 @@ impl Waiting {
     }
 }
 
-/// The task whose instances an event may let wait.
+/// The task whose instances an event may let wait: that which it decides, or of which it ends a try. None for other
+/// events.
 fn task_let_wait_by(event: &Event) -> Option<u32>
     ensures { (w : Waiting) → MatchOption result (HasRoomFor event.now w)
         (λ t. HasRoomOf t w → HasRoomFor event.now w) }
@@ -297,7 +300,7 @@ impl Waiting {
         self.make_room_of(task)
     }
 
-    /// Makes room for one more instance of a task.
+    /// Makes room for one more instance of a task that waits; nothing where there is no such task.
     fn make_room_of(&mut self, task: u32) -> Result<(), OutOfMemory>
         ensures kept { (b : Backfill) → KeepsTries b self.old → KeepsTries b self.new }
         ensures room { OnOk result (HasRoomOf task self.new) }
@@ -311,7 +314,8 @@ impl Waiting {
         }
     }
 
-    /// Keeps what waits over an event that has come to the core. It takes no memory.
+    /// Keeps what waits up to date after an event that has come to the core, for which `make_room` made room. It
+    /// takes no memory.
     pub fn on_event(&mut self, core: &Core<'_>, event: &Event)
         requires { HasRoomFor event.now self.old }
         ensures { KeepsTriesOver event.now core.now self.old self.new }
@@ -330,7 +334,7 @@ impl Waiting {
         }
     }
 
-    /// After a task is decided.
+    /// Keeps what waits up to date after a task was decided in a run.
     fn on_decision(&mut self, core: &Core<'_>, run: u32, task: u32)
         requires { HasRoomOf task self.old }
         ensures { (expands : Bool) → KeepsTriesOver (deciding expands run task) core.now self.old
@@ -342,7 +346,7 @@ impl Waiting {
         }
     }
 
-    /// After a try of a task began.
+    /// Keeps what waits up to date after a try of a task began.
     fn on_begin(&mut self, core: &Core<'_>, task: u32)
         ensures { (n : JobName) → n.task ≡ task
             → KeepsTriesOver (Event.Begin n) core.now self.old self.new }
@@ -353,7 +357,7 @@ impl Waiting {
         }
     }
 
-    /// After a try of the instance at a place ended.
+    /// Keeps what waits up to date after a try of the instance at `place`, from 0, of a task in a run ended.
     fn on_end(&mut self, core: &Core<'_>, run: u32, task: u32, place: u32)
         requires { HasRoomOf task self.old }
         ensures { (n : JobName) (o : Outcome) → IsOfPlace core.now.dag n run task place
@@ -365,7 +369,7 @@ impl Waiting {
         }
     }
 
-    /// After the clock moved.
+    /// Keeps what waits up to date after the clock moved to `now`, in seconds since 1970.
     fn on_tick(&mut self, core: &Core<'_>, now: i64)
         ensures { KeepsTriesOver (Event.Tick now) core.now self.old self.new }
     {

@@ -7,7 +7,7 @@ use bf_pool::total_weight;
 use bf_value::OutOfMemory;
 use std::alloc::Global;
 
-/// The total weight of each task.
+/// The total priority weight of each task, by its weight rule, in the order of the file.
 pub fn total_weights_of(alloc: Global, plan: &Plan) -> Result<Vec<u32>, OutOfMemory>
     ensures { IfOk result (λ ws. AreWeights plan.now.dag plan.now.limits ws.items) }
 {
@@ -19,7 +19,7 @@ pub fn total_weights_of(alloc: Global, plan: &Plan) -> Result<Vec<u32>, OutOfMem
     Ok(weights)
 }
 
-/// The weight of a task among those of all tasks.
+/// The weight of a task, by its number, among the weights of all tasks; 0 where there is no such task.
 pub fn weight_of(weights: &[u32], task: u32) -> u32
     ensures { result ≡ slice_index weights.now task }
 {

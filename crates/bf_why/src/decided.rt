@@ -20,6 +20,7 @@ use bf_value::{OutOfMemory, Text};
 use bf_wording::one_line;
 use std::alloc::Global;
 
+/// The tasks directly upstream of a task.
 fn upstreams_of(plan: &Plan, task: u32) -> &[u32]
     requires { task < length plan.now.dag.tasks }
     ensures { result.now ≡ (task_of plan.now.dag task).upstreams }
@@ -27,6 +28,7 @@ fn upstreams_of(plan: &Plan, task: u32) -> &[u32]
     plan.dag().task(task).upstreams.as_slice()
 }
 
+/// A sentence for each branch directly upstream that succeeded and doesn't follow the task, so that it is skipped.
 fn lines_by_branches(
     alloc: Global,
     plan: &Plan,
@@ -40,6 +42,7 @@ fn lines_by_branches(
     branch_sentences(alloc, plan, settled, upstreams_of(plan, task), task)
 }
 
+/// The one sentence that names the branches directly upstream without a status, for which a task has none.
 fn lines_by_blocked_branches(
     alloc: Global,
     plan: &Plan,
@@ -54,6 +57,7 @@ fn lines_by_blocked_branches(
     one_line(alloc, blocked_branches_sentence(alloc, names.as_slice())?)
 }
 
+/// The one sentence that names the tasks directly upstream without a status, for which a task has none.
 fn lines_by_blocked_tasks(
     alloc: Global,
     plan: &Plan,
@@ -69,6 +73,7 @@ fn lines_by_blocked_tasks(
     one_line(alloc, blocked_upstreams_sentence(alloc, names.as_slice())?)
 }
 
+/// The one sentence on what a task's trigger rule says, which is this verdict. `settled` are the tasks of the run.
 fn lines_by_rule(
     alloc: Global,
     plan: &Plan,
@@ -83,7 +88,8 @@ fn lines_by_rule(
     one_line(alloc, ruled_text(alloc, plan, settled, task, verdict)?)
 }
 
-/// Of a task that its rule lets run. The run before has these tasks.
+/// A sentence on the rule of a task, which lets it run, and one on its past where it depends on it. `before` is the
+/// run before and `settled_before` its tasks, none for the first run.
 fn lines_by_past(
     alloc: Global,
     plan: &Plan,
@@ -103,7 +109,8 @@ fn lines_by_past(
     Ok(lines)
 }
 
-/// Of one that goes on to its items.
+/// Sentences on the rule of a task, which lets it run, on its past where it depends on it, and on its source where it
+/// is expanded. `before` is the run before and `settled_before` its tasks, none for the first run.
 fn lines_by_source(
     alloc: Global,
     plan: &Plan,
@@ -125,7 +132,8 @@ fn lines_by_source(
     Ok(lines)
 }
 
-/// Why the graph decides for this cause what it does of a task, over the tasks of its run and of the run before, where there is one.
+/// The sentences on why the graph decides for this cause what it does of a task. `settled` are the tasks of its run,
+/// `before` is the run before and `settled_before` its tasks, none for the first run.
 pub(crate) fn decided_lines(
     alloc: Global,
     plan: &Plan,

@@ -11,7 +11,8 @@ use bf_report::RunReport;
 use bf_value::{OutOfMemory, Text};
 use std::alloc::Global;
 
-/// By the run before, of which these are the tasks.
+/// The sentence that a task depends on its past, and how it ended in the run before, of which `settled` are the
+/// tasks.
 fn sentence_by_run(
     alloc: Global,
     before: &RunReport,
@@ -27,6 +28,8 @@ fn sentence_by_run(
     Ok(Text::new(text))
 }
 
+/// The sentence on the past of a task that depends on it: how it ended in the run `before`, of which `settled` are
+/// the tasks, or that there is none before the first run.
 fn past_sentence(
     alloc: Global,
     before: Option<&RunReport>,
@@ -43,6 +46,7 @@ fn past_sentence(
     }
 }
 
+/// Whether a task depends on its past.
 fn depends_on_past(plan: &Plan, task: u32) -> bool
     requires { task < length plan.now.dag.tasks }
     ensures { result ≡ (task_of plan.now.dag task).depends_on_past }
@@ -50,7 +54,8 @@ fn depends_on_past(plan: &Plan, task: u32) -> bool
     plan.dag().task(task).depends_on_past
 }
 
-/// Adds what its past says of a task that depends on it. The run before has these tasks; the first has none before it.
+/// Adds the sentence on a task's past where it depends on it, and else nothing. `before` is the run before and
+/// `settled` its tasks, none for the first run.
 pub(crate) fn add_past(
     alloc: Global,
     lines: &mut Vec<Text>,

@@ -13,7 +13,7 @@ use bf_value::{OutOfMemory, Text};
 use bf_wording::count_text;
 use std::alloc::Global;
 
-/// How many instances are counted.
+/// How many instances the counts add up to, the unfinished ones too.
 fn total(counts: &Counts) -> u64
     ensures { result ≡ total_of counts.now }
 {
@@ -25,6 +25,8 @@ fn total(counts: &Counts) -> u64
         + u64::from(counts.unfinished)
 }
 
+/// How many instances directly upstream there are and in which states, as `3 upstream instances (2 success, 1
+/// failed)`.
 fn over_instances_text(alloc: Global, counts: &Counts) -> Result<Text, OutOfMemory>
     ensures { IfOk result (λ text. text ≡ over_instances_text_of counts.now) }
 {
@@ -33,6 +35,8 @@ fn over_instances_text(alloc: Global, counts: &Counts) -> Result<Text, OutOfMemo
     Ok(Text::new(format!(in alloc; "{over} ({counts})")?))
 }
 
+/// The sentence on what a task's trigger rule says, which is this verdict, over how many upstream instances in which
+/// states, and on what ground.
 fn rule_sentence(
     alloc: Global,
     plan: &Plan,
@@ -53,7 +57,8 @@ fn rule_sentence(
     Ok(Text::new(text))
 }
 
-/// What the rule of a task says, over the upstreams that it has.
+/// The sentence on what a task's trigger rule says, which is this verdict; that no rule holds it back where it has no
+/// upstreams.
 pub(crate) fn ruled_text(
     alloc: Global,
     plan: &Plan,

@@ -22,6 +22,7 @@ enum Ground {
     States(States),
 }
 
+/// The name of a trigger rule, as graph files have it.
 pub(crate) fn rule_text(rule: Rule) -> &'static str
     ensures { result.now ≡ rule_text_of rule }
 {
@@ -40,6 +41,7 @@ pub(crate) fn rule_text(rule: Rule) -> &'static str
     }
 }
 
+/// The word for what a verdict makes of a task: `skipped`, `upstream_failed`, and `run` for every other.
 pub(crate) fn verdict_text(verdict: Verdict) -> &'static str
     ensures { result.now ≡ verdict_text_of verdict }
 {
@@ -50,6 +52,8 @@ pub(crate) fn verdict_text(verdict: Verdict) -> &'static str
     }
 }
 
+/// What a rule's verdict rests on: upstreams in some states, or words alone. A verdict that the rule doesn't give
+/// counts as to run.
 fn ground_of(rule: Rule, verdict: Verdict) -> Ground
     ensures { IsGround (since rule verdict) result }
 {
@@ -99,6 +103,7 @@ fn ground_of(rule: Rule, verdict: Verdict) -> Ground
     }
 }
 
+/// The id of an expanded task with how many of its `all` instances are meant, as `load (2 of 5)`.
 fn name_with_share(alloc: Global, id: &str, count: u32, all: usize) -> Result<Text, OutOfMemory>
     ensures { IfOk result (λ text. text ≡ shared id.now count all) }
 {
@@ -107,6 +112,8 @@ fn name_with_share(alloc: Global, id: &str, count: u32, all: usize) -> Result<Te
     Ok(Text::new(format!(in alloc; "{id} ({count} of {all})")?))
 }
 
+/// A task in a sentence: its id, and where the report has it as expanded how many instances are meant, as `load (2 of
+/// 5)`.
 fn name_of_task(alloc: Global, id: &str, count: u32, task: &TaskReport) -> Result<Text, OutOfMemory>
     ensures { IfOk result (λ text. text ≡ with_share id.now count (Some task.now)) }
 {
@@ -116,7 +123,8 @@ fn name_of_task(alloc: Global, id: &str, count: u32, task: &TaskReport) -> Resul
     }
 }
 
-/// Of an expanded task with how many of its instances.
+/// An upstream in a sentence: its id, and where it is expanded how many instances are meant, as `load (2 of 5)`; only
+/// its id where `task`, which the report has of it, is None.
 fn name_of(
     alloc: Global,
     id: &str,
@@ -132,7 +140,8 @@ fn name_of(
     }
 }
 
-/// Adds an upstream, where some instance of it is in these states.
+/// Adds an upstream's id to `names` where an instance of it is in one of these states, with how many where it is
+/// expanded.
 fn add_name(
     alloc: Global,
     dag: &Dag,
@@ -153,6 +162,8 @@ fn add_name(
     Ok(())
 }
 
+/// The ids of those of these upstreams that have an instance in one of these states, with how many where one is
+/// expanded.
 fn names_in(
     alloc: Global,
     dag: &Dag,
@@ -170,6 +181,8 @@ fn names_in(
     Ok(names)
 }
 
+/// The words `because of` and the upstreams of a task with an instance in one of these states, as `because of load (2
+/// of 5)`.
 fn because_of(
     alloc: Global,
     dag: &Dag,
@@ -187,7 +200,7 @@ fn because_of(
     Ok(Text::new(format!(in alloc; "because of {names}")?))
 }
 
-/// Since when the rule of a task says so.
+/// The ground on which the rule of a task gives this verdict, as `because of load` or `since all are success`.
 #[tactic(auto, using(crate::proofs::SinceFacts::since_said, crate::proofs::SinceFacts::since_states))]
 pub(crate) fn since_text(
     alloc: Global,

@@ -15,6 +15,7 @@ pub struct States {
     pub skipped: bool,
 }
 
+/// The count where it is chosen, and else 0.
 fn count_if(chosen: bool, count: u32) -> u32
     ensures { result ≡ (if chosen then count else 0) }
 {
@@ -43,7 +44,7 @@ impl States {
         skipped: true,
     };
 
-    /// How many instances are in one of them.
+    /// How many of the counted instances are in one of these states.
     pub fn count_in(self, counts: &Counts) -> u32
         requires { total_of counts.now ≤ 1_024 }
         ensures { result ≡ count_of self counts.now }
@@ -56,7 +57,7 @@ impl States {
     }
 }
 
-/// Whether an instance of a task is in one of these states.
+/// Whether an instance of a task is in one of these states; one that isn't in `settled` is blocked, and so in none.
 pub fn has_instance_in(settled: &[Settled<'_>], states: States, task: u32) -> bool
     ensures { result ≡ has_instance_of settled.now states task }
 {

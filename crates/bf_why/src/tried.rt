@@ -21,6 +21,7 @@ const SOURCE_FAILS: &str =
 const NOT_TOLD: &str =
     "Why a try failed isn't in a report: what its program wrote to standard error says it.";
 
+/// The sentence on an instance that succeeded in its try `tries`, counted from 1, behind others that failed.
 fn later_text(alloc: Global, tries: u32) -> Result<Text, OutOfMemory>
     ensures { IfOk result (λ text. text ≡ later_text_of tries) }
 {
@@ -30,6 +31,7 @@ fn later_text(alloc: Global, tries: u32) -> Result<Text, OutOfMemory>
     Ok(Text::new(text))
 }
 
+/// The sentence on an instance that succeeded in its try `tries`, counted from 1.
 fn succeeded_text(alloc: Global, tries: u32) -> Result<Text, OutOfMemory>
     ensures { IfOk result (λ text. text ≡ succeeded_text_of tries) }
 {
@@ -40,6 +42,7 @@ fn succeeded_text(alloc: Global, tries: u32) -> Result<Text, OutOfMemory>
     }
 }
 
+/// The sentence on an instance whose try `tries`, counted from 1, exited with 99, which skips it.
 fn skipped_text(alloc: Global, tries: u32) -> Result<Text, OutOfMemory>
     ensures { IfOk result (λ text. text ≡ skipped_text_of tries) }
 {
@@ -48,6 +51,7 @@ fn skipped_text(alloc: Global, tries: u32) -> Result<Text, OutOfMemory>
     Ok(Text::new(text))
 }
 
+/// The sentence on an instance all of whose tries, as many as the graph allows, failed.
 fn all_failed_text(alloc: Global, tries: u32) -> Result<Text, OutOfMemory>
     ensures { IfOk result (λ text. text ≡ all_failed_text_of tries) }
 {
@@ -58,6 +62,7 @@ fn all_failed_text(alloc: Global, tries: u32) -> Result<Text, OutOfMemory>
     Ok(Text::new(format!(in alloc; "All its {tries} tries failed.")?))
 }
 
+/// The sentence on an instance that failed behind `tries` tries, fewer or more than the `most` that the graph allows.
 fn not_allowed_text(alloc: Global, tries: u32, most: u32) -> Result<Text, OutOfMemory>
     ensures { IfOk result (λ text. text ≡ not_allowed_text_of tries most) }
 {
@@ -67,7 +72,7 @@ fn not_allowed_text(alloc: Global, tries: u32, most: u32) -> Result<Text, OutOfM
     Ok(Text::new(text))
 }
 
-/// Of one that failed, where the graph allows so many tries.
+/// The sentence on an instance that failed behind `tries` tries, where the graph allows `most`.
 fn failed_text(alloc: Global, tries: u32, most: u32) -> Result<Text, OutOfMemory>
     ensures { IfOk result (λ text. text ≡ failed_text_of tries most) }
 {
@@ -78,6 +83,7 @@ fn failed_text(alloc: Global, tries: u32, most: u32) -> Result<Text, OutOfMemory
     }
 }
 
+/// Whether `other` is expanded over the task of the number `task`.
 fn is_expanded_over(other: &Task, task: u32) -> bool
     ensures { result ≡ is_source other.now.expand task }
 {
@@ -87,6 +93,7 @@ fn is_expanded_over(other: &Task, task: u32) -> bool
     }
 }
 
+/// Whether some task of the graph is expanded over `task`.
 fn is_source_of_some(dag: &Dag, task: u32) -> bool
     ensures { result ≡ list_any (λ other. is_source other.expand task) dag.now.tasks }
 {
@@ -96,14 +103,15 @@ fn is_source_of_some(dag: &Dag, task: u32) -> bool
         .any(|other| is_expanded_over(other, task))
 }
 
-/// Whether a task has to push a list, since another is expanded over it.
+/// Whether a task has to push a list: another is expanded over it, and it isn't expanded itself.
 fn gives_items(dag: &Dag, task: u32) -> bool
     ensures { result ≡ gives_items_in dag.now task }
 {
     !is_expanded(dag, task) && is_source_of_some(dag, task)
 }
 
-/// Adds what else makes a try fail than its program.
+/// Adds sentences on what else makes a try of this task fail, where it is a branch or has to push a list, and that
+/// why a try failed isn't in a report.
 fn add_failings(
     alloc: Global,
     lines: &mut Vec<Text>,
@@ -118,7 +126,7 @@ fn add_failings(
     Ok(())
 }
 
-/// How many tries the graph allows an instance of a task.
+/// How many tries the graph allows an instance of a task: one more than its retries.
 fn most_tries(plan: &Plan, task: u32) -> u32
     requires { task < length plan.now.dag.tasks }
     ensures { result ≡ (task_of plan.now.dag task).retries + 1 }
@@ -126,7 +134,7 @@ fn most_tries(plan: &Plan, task: u32) -> u32
     plan.dag().task(task).retries + 1
 }
 
-/// What came of the tries of an instance of a task, in sentences.
+/// How the tries of an instance of a task went, in sentences; for a failed one also on what makes its tries fail.
 pub(crate) fn tried_lines(
     alloc: Global,
     plan: &Plan,

@@ -15,6 +15,8 @@ use std::alloc::Global;
 /// How many characters of a value stand in a sentence.
 const MOST_CHARACTERS: usize = 200;
 
+/// The sentence that a branch succeeded and doesn't follow the task explained, with what it pushed, cut at 200
+/// characters.
 fn branch_sentence(
     alloc: Global,
     plan: &Plan,
@@ -31,7 +33,7 @@ fn branch_sentence(
     Ok(Text::new(text))
 }
 
-/// Adds a sentence on an upstream, where it is a branch that succeeded and doesn't follow a task.
+/// Adds the sentence on `upstream` where it is a branch that succeeded and doesn't follow `task`, and else nothing.
 fn add_branch(
     alloc: Global,
     lines: &mut Vec<Text>,
@@ -50,7 +52,8 @@ fn add_branch(
     Ok(())
 }
 
-/// A sentence for each branch directly upstream that succeeded and doesn't follow a task.
+/// A sentence for each of these upstreams that is a branch which succeeded and doesn't follow `task`; none where
+/// there is no such branch.
 pub(crate) fn branch_sentences(
     alloc: Global,
     plan: &Plan,
@@ -69,6 +72,7 @@ pub(crate) fn branch_sentences(
     Ok(lines)
 }
 
+/// Adds the id of a task to `ids` where `holds`.
 fn add_id_if(
     alloc: Global,
     ids: &mut Vec<Text>,
@@ -82,6 +86,7 @@ fn add_id_if(
     add_line_if(alloc, ids, holds, id_at(plan.dag(), task))
 }
 
+/// Whether an upstream is a branch without a status.
 fn is_blocked_branch_of(plan: &Plan, settled: &[Settled<'_>], upstream: u32) -> bool
     ensures { result ≡ branch_is plan.now.dag is_blocked_in upstream
         (Some (value_among settled.now upstream)) }
@@ -89,7 +94,7 @@ fn is_blocked_branch_of(plan: &Plan, settled: &[Settled<'_>], upstream: u32) -> 
     is_blocked_branch(plan.dag(), settled, upstream)
 }
 
-/// The ids of the branches among these that are blocked.
+/// The ids of the branches without a status among these upstreams, in their order.
 pub(crate) fn blocked_branch_ids(
     alloc: Global,
     plan: &Plan,
@@ -109,7 +114,7 @@ pub(crate) fn blocked_branch_ids(
     Ok(ids)
 }
 
-/// The ids of those among these that are blocked.
+/// The ids of the tasks without a status among these upstreams, in their order.
 pub(crate) fn blocked_task_ids(
     alloc: Global,
     plan: &Plan,
@@ -128,6 +133,7 @@ pub(crate) fn blocked_task_ids(
     Ok(ids)
 }
 
+/// The end of a sentence: ` has no status.` for one, and ` have no status.` for several.
 fn has_no_status_words(count: usize) -> &'static str
     ensures { result.now ≡ (if count == 1 then codes " has no status." else codes
         " have no status.") }
@@ -139,13 +145,14 @@ fn has_no_status_words(count: usize) -> &'static str
     }
 }
 
+/// The word `branch ` for one and `branches ` for several, with a space at its end.
 fn branch_word(count: usize) -> &'static str
     ensures { result.now ≡ (if count == 1 then codes "branch " else codes "branches ") }
 {
     if count == 1 { "branch " } else { "branches " }
 }
 
-/// That these have no status, as the end of a sentence.
+/// The end of a sentence: these names in a list, and that they have no status.
 pub fn no_status_text(alloc: Global, names: &[Text]) -> Result<Text, OutOfMemory>
     ensures { IfOk result (λ text. text ≡ have_no_status_of names.now) }
 {
@@ -154,6 +161,7 @@ pub fn no_status_text(alloc: Global, names: &[Text]) -> Result<Text, OutOfMemory
     Ok(Text::new(format!(in alloc; "{listed}{have}")?))
 }
 
+/// The sentence that these branches directly upstream have no status.
 pub(crate) fn blocked_branches_sentence(alloc: Global, names: &[Text]) -> Result<Text, OutOfMemory>
     ensures { IfOk result (λ text. text ≡ blocked_branches_sentence_of names.now) }
 {
@@ -162,6 +170,7 @@ pub(crate) fn blocked_branches_sentence(alloc: Global, names: &[Text]) -> Result
     Ok(Text::new(format!(in alloc; "Directly upstream, the {branches}{rest}")?))
 }
 
+/// The sentence that these tasks directly upstream have no status.
 pub(crate) fn blocked_upstreams_sentence(alloc: Global, names: &[Text]) -> Result<Text, OutOfMemory>
     ensures { IfOk result (λ text. text ≡ blocked_upstreams_sentence_of names.now) }
 {

@@ -17,6 +17,7 @@ use bf_wording::{add_lines, count_text, one_line};
 use bf_xcom::TaskResult;
 use std::alloc::Global;
 
+/// The sentence on how an expanded task ended, as `It came to 3 instances: 2 success, 1 failed.`
 fn came_line(alloc: Global, instances: usize, counts: &Counts) -> Result<Text, OutOfMemory>
     ensures { IfOk result (λ text. text ≡ came_line_of instances counts.now) }
 {
@@ -25,6 +26,7 @@ fn came_line(alloc: Global, instances: usize, counts: &Counts) -> Result<Text, O
     Ok(Text::new(format!(in alloc; "It came to {instances}: {counts}.")?))
 }
 
+/// How the tries of the instance of this map index went, in sentences; none where there is no such instance.
 fn tried_lines_at(
     alloc: Global,
     plan: &Plan,
@@ -42,7 +44,8 @@ fn tried_lines_at(
     }
 }
 
-/// Of all instances of an expanded task, or of the one of this map index.
+/// How all instances of an expanded task ended, in a sentence, or where `index` is given how the tries of that
+/// instance went; none where there is no such instance.
 fn came_to_lines(
     alloc: Global,
     plan: &Plan,
@@ -62,7 +65,8 @@ fn came_to_lines(
     }
 }
 
-/// What came of a task that the report has so, or of one of its instances.
+/// How a task that the report has as `told` ended, or its instance of this map index, in sentences; none for a task
+/// without a try.
 fn ended_lines(
     alloc: Global,
     plan: &Plan,
@@ -82,14 +86,16 @@ fn ended_lines(
     }
 }
 
+/// Whether a task is expanded.
 fn is_expanded_in(plan: &Plan, task: u32) -> bool
     ensures { result ≡ is_some (task_of plan.now.dag task).expand }
 {
     is_expanded(plan.dag(), task)
 }
 
-/// Why a task, which the report has so, has its state in a run, or one of its instances: how the graph decides it for this cause, over
-/// the tasks of the run and of the run before, where there is one; and what came of its tries.
+/// Why a task, or its instance of this map index, has its state, in sentences: how the graph decides it for this
+/// cause, and how its tries went. `settled` are the tasks of the run, `before` is the run before and `settled_before`
+/// its tasks, none for the first run; `told` is what the report has of the task.
 pub fn why_lines(
     alloc: Global,
     plan: &Plan,

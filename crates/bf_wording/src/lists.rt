@@ -8,13 +8,15 @@ use crate::numbers::push_number;
 use bf_value::{OutOfMemory, Text};
 use std::alloc::Global;
 
-/// What stands before a name behind the first, where so many are left behind it.
+/// What joins two names of a list: ` and ` where no name is left behind the second, else `, `. `left` says how many
+/// are.
 fn separator(left: usize) -> &'static str
     ensures { result.now ≡ (if left == 0 then codes " and " else codes ", ") }
 {
     if left == 0 { " and " } else { ", " }
 }
 
+/// Adds the names with commas between them, and `and` before the last.
 fn push_joined(text: &mut String, names: &[Text]) -> Result<(), OutOfMemory>
     ensures { OnOk result (string_bytes text.new ≡ string_bytes text.old ++ joined names.now) }
 {
@@ -29,6 +31,7 @@ fn push_joined(text: &mut String, names: &[Text]) -> Result<(), OutOfMemory>
     Ok(())
 }
 
+/// Copies of all these names.
 fn copies_of_names(alloc: Global, names: &[Text]) -> Result<Vec<Text>, OutOfMemory>
     ensures { IfOk result (λ copies. copies.items ≡ names.now) }
 {
@@ -39,7 +42,7 @@ fn copies_of_names(alloc: Global, names: &[Text]) -> Result<Vec<Text>, OutOfMemo
     Ok(copies)
 }
 
-/// How many more there are.
+/// The words `N more`.
 fn more_text(alloc: Global, count: usize) -> Result<Text, OutOfMemory>
     ensures { IfOk result (λ text. text ≡ number_text count ++ codes " more") }
 {
@@ -49,6 +52,7 @@ fn more_text(alloc: Global, count: usize) -> Result<Text, OutOfMemory>
     Ok(Text::new(text))
 }
 
+/// Copies of the names; of more than `most` + 1 names copies of the first `most`, and the words `N more`.
 fn shortened_names(alloc: Global, names: &[Text], most: usize) -> Result<Vec<Text>, OutOfMemory>
     ensures { IfOk result (λ kept. kept.items ≡ shortened_names_of most names.now) }
 {
@@ -60,7 +64,8 @@ fn shortened_names(alloc: Global, names: &[Text], most: usize) -> Result<Vec<Tex
     Ok(kept)
 }
 
-/// Adds names, as `a`, `a and b`, `a, b and c`; of more than one above `most` only so many, and how many more there are.
+/// Adds names, as `a`, `a and b`, `a, b and c`, and nothing for none; of more than `most` + 1 names the first `most`,
+/// and how many more there are, as `a, b and 3 more`.
 pub fn push_name_list(
     alloc: Global,
     text: &mut String,
@@ -74,7 +79,7 @@ pub fn push_name_list(
     push_joined(text, kept.as_slice())
 }
 
-/// Adds parts with this text between.
+/// Adds the parts of a list, with `separator` between two; nothing where there are none.
 pub fn push_separated(text: &mut String, separator: &str, parts: &[Text]) -> Result<(), OutOfMemory>
     ensures { OnOk result (string_bytes text.new
         ≡ string_bytes text.old ++ join_by (λ part. part) separator.now parts.now) }

@@ -11,7 +11,7 @@ use std::alloc::Global;
 /// How many names stand in a sentence, and one more where that is all.
 const MOST_NAMES: usize = 5;
 
-/// A number, as 8,192,000.
+/// The text of a number with commas, as `8,192,000`.
 pub fn text_of_number(alloc: Global, count: u64) -> Result<Text, OutOfMemory>
     ensures { IfOk result (λ text. text ≡ number_text count) }
 {
@@ -20,7 +20,7 @@ pub fn text_of_number(alloc: Global, count: u64) -> Result<Text, OutOfMemory>
     Ok(Text::new(text))
 }
 
-/// How many there are of what one is called so.
+/// A count with commas and its noun, as `1 run` and `2 runs`; `one` is the noun for one.
 pub fn count_text(alloc: Global, count: u64, one: &str) -> Result<Text, OutOfMemory>
     ensures { IfOk result (λ text. text ≡ count_text_of count one.now) }
 {
@@ -29,7 +29,7 @@ pub fn count_text(alloc: Global, count: u64, one: &str) -> Result<Text, OutOfMem
     Ok(Text::new(text))
 }
 
-/// Names, as `a, b and c`.
+/// The text of a list of names, as `a, b and c`; of more than 6 names the first 5, and how many more there are.
 pub fn name_list(alloc: Global, names: &[Text]) -> Result<Text, OutOfMemory>
     ensures { IfOk result (λ text. text ≡ name_list_of 5 names.now) }
 {

@@ -20,6 +20,7 @@ fn chars_of(alloc: Global, shown: &str) -> Result<Vec<char>, OutOfMemory>
     Ok(all)
 }
 
+/// The text that these characters make.
 fn text_of_chars(alloc: Global, shown: &[char]) -> Result<Text, OutOfMemory>
     ensures { IfOk result (λ text. text ≡ flat_map encode_utf8 shown.now) }
 {
@@ -30,7 +31,7 @@ fn text_of_chars(alloc: Global, shown: &[char]) -> Result<Text, OutOfMemory>
     Ok(Text::new(text))
 }
 
-/// The first characters of a text, and how many it has.
+/// The first characters of a text, and `count`, how many it has in all, as `abc... (1,234 characters)`.
 fn cut_text_with_count(alloc: Global, first: &[char], count: usize) -> Result<Text, OutOfMemory>
     ensures { IfOk result (λ text. text ≡ cut_text_with_count_of first.now count) }
 {
@@ -39,7 +40,7 @@ fn cut_text_with_count(alloc: Global, first: &[char], count: usize) -> Result<Te
     Ok(Text::new(format!(in alloc; "{first}... ({count} characters)")?))
 }
 
-/// A text; of one of more characters the first of them, and how many there are.
+/// The text `shown`; of one with more than `most` characters the first `most`, and how many it has in all.
 fn cut_text(alloc: Global, shown: &str, most: usize) -> Result<Text, OutOfMemory>
     ensures { IfOk result (λ text. text ≡ cut most shown.now) }
 {
@@ -50,7 +51,8 @@ fn cut_text(alloc: Global, shown: &str, most: usize) -> Result<Text, OutOfMemory
     cut_text_with_count(alloc, &all[..most], all.len())
 }
 
-/// A value as JSON text that a terminal shows, or `nothing`.
+/// A value as compact JSON text that a terminal shows as it is, or `nothing` for none. Of a text with more than
+/// `most` characters the first `most`, and how many it has in all.
 pub fn value_text(alloc: Global, value: Option<&Xval>, most: usize) -> Result<Text, OutOfMemory>
     ensures { IfOk result (λ text. text ≡ value_text_of most (option_copied value.entry)) }
 {

@@ -9,6 +9,7 @@ use bf_value::{OutOfMemory, Xval, text_of};
 use bf_xcom::Given;
 use std::alloc::Global;
 
+/// A text itself, and any other value as compact JSON.
 fn value_word(alloc: Global, value: &Xval) -> Result<String, OutOfMemory>
     ensures { IfOk result (λ word. string_bytes word ≡ value_word_of value.now) }
 {
@@ -18,6 +19,7 @@ fn value_word(alloc: Global, value: &Xval) -> Result<String, OutOfMemory>
     }
 }
 
+/// What a pushed value is as a word of a command; empty where nothing was pushed.
 fn pushed_word(alloc: Global, value: Option<&Xval>) -> Result<String, OutOfMemory>
     ensures { IfOk result (λ word. string_bytes word
         ≡ pushed_word_of (option_map (λ v. v.now) value.entry)) }
@@ -28,6 +30,7 @@ fn pushed_word(alloc: Global, value: Option<&Xval>) -> Result<String, OutOfMemor
     }
 }
 
+/// The text of a context variable in the context of a try.
 fn context_word(
     alloc: Global,
     variable: ContextVariable,
@@ -47,21 +50,25 @@ fn context_word(
     })
 }
 
+/// What the pull at a place, from 0, gives; None where nothing was pushed or there is no such place.
 fn pulled_at(given: &Given, place: u32) -> Option<&Xval>
     ensures { option_map (λ v. v.now) result ≡ slice_index_or given.now.pulled place None }
 {
     match given.pulled.get(place as usize) {
-        Some(pulled_at) => pulled_at.get(),
+        Some(pulled) => pulled.get(),
         None => None,
     }
 }
 
+/// The item of the instance; None where its task isn't expanded.
 fn item_of(given: &Given) -> Option<&Xval>
     ensures { option_map (λ v. v.now) result ≡ given.now.item }
 {
     given.item.as_ref()
 }
 
+/// The text of a word of a command in a try; empty for a pull that gives nothing, and for the item of an unmapped
+/// task.
 fn word_for_try(
     alloc: Global,
     word: &Word,

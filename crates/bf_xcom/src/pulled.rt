@@ -29,7 +29,7 @@ impl Model for Pulled {
 }
 
 impl Pulled {
-    /// What is pulled alike by all that share it.
+    /// A pulled value, or nothing, that can be shared.
     pub fn new(alloc: Global, value: Option<Xval>) -> Result<Pulled, OutOfMemory>
         ensures { IfOk result (λ pulled. pulled ≡ value) }
     {
@@ -41,7 +41,7 @@ impl Pulled {
         }
     }
 
-    /// The same, for one more to share.
+    /// The same value, shared with one more holder; contracts see no sharing.
     pub fn share(&self) -> Result<Pulled, OutOfMemory>
         ensures { IfOk result (λ pulled. pulled ≡ self.now) }
     {
@@ -53,7 +53,7 @@ impl Pulled {
         }
     }
 
-    /// The value, where there is one.
+    /// The value; None where nothing was pulled.
     pub fn get(&self) -> Option<&Xval>
         ensures { option_copied result ≡ self.now }
     {
@@ -63,7 +63,7 @@ impl Pulled {
         }
     }
 
-    /// Whether two are equal.
+    /// Whether two pulls give equal values, or both nothing.
     pub fn is_same(&self, other: &Pulled) -> bool
         ensures { IsTrue result ↔ (self.now ≡ other.now) }
     {

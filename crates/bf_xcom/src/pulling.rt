@@ -7,12 +7,14 @@ use bf_plan::Task;
 use bf_value::{OutOfMemory, Values, Xval, copy_option};
 use std::alloc::Global;
 
+/// What an instance pushed; None where it didn't succeed, or pushed nothing.
 fn pushed_value(instance: &TaskResult) -> Option<&Xval>
     ensures { option_copied result ≡ pushed_value_of instance.now }
 {
     instance.outcome.pushed()
 }
 
+/// A copy of what the only instance of an unmapped task pushed; None where it pushed nothing, or isn't there.
 fn only_pushed_value(alloc: Global, instances: &[TaskResult]) -> Result<Option<Xval>, OutOfMemory>
     ensures { IfOk result (λ value. value ≡ only_pushed_value_in instances.now) }
 {
@@ -22,6 +24,7 @@ fn only_pushed_value(alloc: Global, instances: &[TaskResult]) -> Result<Option<X
     }
 }
 
+/// Copies of all that the instances pushed, in order; one that pushed nothing is left out.
 fn pushed_values(alloc: Global, instances: &[TaskResult]) -> Result<Vec<Xval>, OutOfMemory>
     ensures { IfOk result (λ values. values.items ≡ pushed_values_in instances.now) }
 {

@@ -48,7 +48,7 @@ pub enum RunState {
 }
 
 impl Given {
-    /// Whether two are equal.
+    /// Whether two tries were given the same: equal items and pulls.
     pub fn is_same(&self, other: &Given) -> bool
         ensures { IsTrue result ↔ (self.now ≡ other.now) }
     {
@@ -56,7 +56,7 @@ impl Given {
             && are_same(self.pulled.as_slice(), other.pulled.as_slice())
     }
 
-    /// An equal one, which shares what is pulled.
+    /// A copy of it, which shares the memory of what is pulled. Contracts see no sharing.
     pub fn copy(&self, alloc: Global) -> Result<Given, OutOfMemory>
         ensures { IfOk result (λ given. given ≡ self.now) }
     {
@@ -69,6 +69,7 @@ impl Given {
     }
 }
 
+/// Whether both lists have equal pulls, in the same order.
 fn are_same(one: &[Pulled], other: &[Pulled]) -> bool
     ensures { IsTrue result ↔ (one.now ≡ other.now) }
 {
@@ -83,6 +84,7 @@ fn are_same(one: &[Pulled], other: &[Pulled]) -> bool
     true
 }
 
+/// The pulls once more, with the memory of their values shared. Contracts see no sharing.
 fn shares_of(alloc: Global, all: &[Pulled]) -> Result<Vec<Pulled>, OutOfMemory>
     ensures { IfOk result (λ shares. shares.items ≡ all.now) }
 {
@@ -104,7 +106,7 @@ impl Outcome {
         }
     }
 
-    /// Whether two are equal.
+    /// Whether two outcomes are equal, in what they pushed too.
     pub fn is_same(&self, other: &Outcome) -> bool
         ensures { IsTrue result ↔ (self.now ≡ other.now) }
     {
@@ -117,7 +119,7 @@ impl Outcome {
         }
     }
 
-    /// An equal one.
+    /// A copy of the outcome and of what it pushed.
     pub fn copy(&self, alloc: Global) -> Result<Outcome, OutOfMemory>
         ensures { IfOk result (λ outcome. outcome ≡ self.now) }
     {

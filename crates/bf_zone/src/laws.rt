@@ -6,12 +6,13 @@ ghost use Rattle.jiff.specs.Types.{DateTime, TimeZone};
 ghost use Rattle.jiff.specs.Words.{picked_instant};
 ghost use Rattle.bf_zone.specs.Zones.{Asked, IsZone};
 
-/// A text is read as an offset exactly where it is written as that offset.
+/// A law: a text is read as an offset exactly where it is written as that offset.
 pub fn offsets_are_read_as_written()
     ensures { (text : List ℕ) (n : ℤ) → (offset_of text ≡ Some n) ↔ IsOffsetText text n }
 {}
 
-/// One text and one file mean one zone: of any two that they allow, the instant of every civil time is the same.
+/// A law: one text and one file mean one zone. Of any two that they allow, the instant of every civil time is
+/// the same.
 pub fn zone_of_text_is_unique()
     ensures { (a : Asked) (file : Option (List ℕ)) (x y : TimeZone) → IsZone a file x
         → IsZone a file y →

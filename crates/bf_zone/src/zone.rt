@@ -1,7 +1,7 @@
 //! Zones, and why a text is none.
 ghost use Rattle.std.specs.Prelude.{option_map, IfSome, IfNone, Some, Option, List, ℕ};
 ghost use Rattle.jiff.specs.Words.{plain_zone};
-ghost use Rattle.jiff.specs.Types.{TimeZone};
+ghost use Rattle.jiff.specs.Types.{TimeZone as PlainZone};
 ghost use Rattle.bf_zone.specs.Zones.{asked, file_asked, offset_or_rule, IsZone, IsZoneRead, IsZoneOf};
 ghost use Rattle.bf_zone.specs.Offsets.{offset_of};
 
@@ -32,7 +32,7 @@ pub enum ZoneFault {
     OutOfMemory,
 }
 
-/// The zone of a zone file.
+/// The zone that the bytes of a zone file say; `Bad` where they are too many or no zone file. No file is read.
 fn zone_of_file(alloc: Global, bytes: &[u8]) -> Result<Zone, ZoneFault>
     ensures { IsZoneRead file_asked (Some bytes.now) result }
 {
@@ -46,11 +46,11 @@ fn zone_of_file(alloc: Global, bytes: &[u8]) -> Result<Zone, ZoneFault>
     }
 }
 
-/// The zone of an offset or of a rule.
+/// The zone of an offset, as `+01:00`, or of a POSIX rule; None for any other text.
 fn zone_of_offset_or_rule(text: &str) -> Option<TimeZone<'static>>
     ensures some { IfSome result (λ tz. (file : Option (List ℕ)) →
         IsZone (offset_or_rule (offset_of text.now) text.now) file (plain_zone tz)) }
-    ensures none { IfNone result ((file : Option (List ℕ)) (z : TimeZone) →
+    ensures none { IfNone result ((file : Option (List ℕ)) (z : PlainZone) →
         IsZone (offset_or_rule (offset_of text.now) text.now) file z → ⊥) }
 {
     if let Some(offset) = offset_in(text.as_bytes()) {
@@ -60,9 +60,9 @@ fn zone_of_offset_or_rule(text: &str) -> Option<TimeZone<'static>>
 }
 
 impl Zone {
-    /// The zone of a text, where `file` means the bytes of a zone file. For another text these aren't looked at.
-    /// `Bad` comes exactly where the text means no zone, as `file` does without bytes, and `OutOfMemory` only for a
-    /// zone file that can be read: one that is too long is `Bad` before anything grows.
+    /// The zone of a text: `UTC`, an offset, a POSIX rule, or `file` for the bytes of a zone file, looked at for no
+    /// other. `Bad` comes exactly where the text means no zone, as `file` does without bytes, and `OutOfMemory` only
+    /// for a zone file that can be read: one that is too long is `Bad` before anything grows.
     pub fn read(alloc: Global, text: &str, file: Option<&[u8]>) -> Result<Zone, ZoneFault>
         ensures { IsZoneRead (asked text.now) (option_map (λ s. s.now) file.entry) result }
     {

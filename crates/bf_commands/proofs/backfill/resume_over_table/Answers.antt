@@ -36,7 +36,7 @@ returns-then-is_single_threaded-clause-unsent g c = IfErr-weaker c.resume_alone.
 
 pub returns-in-Ok-clause-end : goal.returns-in-Ok-clause-end
 returns-in-Ok-clause-end g c =
-    end_over (g.K.KeptTries.kept c.args.kept.now) c.args.plan.now.dag c.args.table c.args.runs.now c.in_ok-runner.runner c.args.plan.now.limits _ c.args.crew.now.workers c.in-Ok.resume_backfill c.in_ok-runner.ensures (c.in-Ok.ensures {u = tt}).end
+    end_over (g.K.KeptTries.kept c.args.kept.now) c.args.plan.now.dag c.args.table c.args.runs.now c.in_ok-runner.runner c.args.plan.now.limits _ c.args.crew.now.workers c.in-Ok.ended c.in_ok-runner.ensures (c.in-Ok.ensures {u = tt}).end
 
 pub returns-clause-wanting : goal.returns-clause-wanting
 returns-clause-wanting g c = subst (λ (b : Bool). IsWantingWorkers b c.stop_fault_over_table.result) (sym c.if-is_single_threaded.false ∙ c.is_single_threaded.ensures) c.stop_fault_over_table.ensures.wanting

@@ -15,8 +15,8 @@ write_backfill-requires-sync-K g c κs = search shared depth 40 fits 20000
 
 pub returns-in_err-clearing-clause-fault : goal.returns-in_err-clearing-clause-fault
 returns-in_err-clearing-clause-fault g c =
-    handed_on _ _ c.from_residual.ensures.1 (uncleared_again c.args.prepared.into_dated.plan.dag c.args.prepared.into_dated.runs c.args.report c.args.what
-    (is_single_threaded_in c.args.crew.now.progress) (with_clocks (launching_of c.args.crew.now.launching) (clocks_in c.args.prepared.into_dated)) (g.RT.Starter.may_lose c.args.crew.now.rt.now)
+    handed_on _ _ c.from_residual.ensures.1 (uncleared_again c.args.prepared.dated.plan.dag c.args.prepared.dated.runs c.args.report c.args.what
+    (is_single_threaded_in c.args.crew.now.progress) (with_clocks (launching_of c.args.crew.now.launching) (clocks_in c.args.prepared.dated)) (g.RT.Starter.may_lose c.args.crew.now.rt.now)
     c.args.prepared.answers _ c.in_err-clearing.ensures.fault)
 
 pub returns-clause-ok : goal.returns-clause-ok
@@ -32,6 +32,6 @@ returns-clause-left g c =
 pub returns-clause-fault : goal.returns-clause-fault
 returns-clause-fault g c =
     let stop : _ = rw (c.with_clocks-crew.ensures.machine, c.with_clocks-crew.ensures.progress, c.with_clocks-crew.ensures.launching, c.deref.ensures.value) at c.write_backfill.ensures.stop in
-    again_stop_in (is_single_threaded_in c.args.crew.now.progress) (with_clocks (launching_of c.args.crew.now.launching) (clocks_in c.args.prepared.into_dated)) (g.RT.Starter.may_lose c.args.crew.now.rt.now)
-    c.args.prepared.into_dated.plan.dag c.args.prepared.into_dated.runs c.args.report c.args.what (kept_in c.in_ok-clearing.clearing.kept)
+    again_stop_in (is_single_threaded_in c.args.crew.now.progress) (with_clocks (launching_of c.args.crew.now.launching) (clocks_in c.args.prepared.dated)) (g.RT.Starter.may_lose c.args.crew.now.rt.now)
+    c.args.prepared.dated.plan.dag c.args.prepared.dated.runs c.args.report c.args.what (kept_in c.in_ok-clearing.clearing.kept)
     c.in_ok-clearing.ensures.cleared.kept_is c.args.prepared.answers _ stop

@@ -15,7 +15,7 @@ returns-in_err-read_item c =
 
 pub loop-part-preserved : goal.loop-part-preserved
 loop-part-preserved c =
-    rw map-append (IsField-push c.args.field (map (λ s. s.now) c.loop-part.yielded) c.in-Some.part.now c.in_ok-read_item.read_field-0 c.loop-part.word c.with_numbers-word.result (sym c.in_ok-read_item.ensures.value) c.loop-part.invariant c.with_numbers-word.ensures)
+    rw map-append (IsField-push c.args.field (map (λ s. s.now) c.loop-part.yielded) c.in-Some.part.now c.in_ok-read_item.field-0 c.loop-part.word c.with_numbers-word.result (sym c.in_ok-read_item.ensures.value) c.loop-part.invariant c.with_numbers-word.ensures)
 
 pub returns : goal.returns
 returns c =

@@ -9,9 +9,9 @@ use Rattle.bf_explain.proofs.task.explain_task.Goals as goal
 
 pub returns : goal.returns
 returns c =
-    let tasks = c.args.told_run.now.tasks in let told = c.index-task_report.result.now in
+    let tasks = c.args.told_run.now.tasks in let told = c.index-told.result.now in
     let read : told ≡ slice_index_or tasks c.args.task told =
-    c.index-task_report.ensures ∙ ap (λ ts. slice_index_or ts c.args.task told) (c.in_ok-settled.ensures ∙ c.as_slice.ensures) in
+    c.index-told.ensures ∙ ap (λ ts. slice_index_or ts c.args.task told) (c.in_ok-settled.ensures ∙ c.as_slice.ensures) in
     IfOk-weaker c.lines_text.result _ _
     (λ text is. λ wanted there. (
       c.in_ok-lines.lines.items,

@@ -10,4 +10,4 @@ loop-name-preserved c =
     let none : Bor (List ℕ) = record { ref_ptr = (0, 0); now = [] } in
     let found = c.nearer.result in
     let P : List (List ℕ) → Type 0 = λ ns. IsNearestTo c.args.text.now ns found.name.now found.distance in
-    subst P (sym (one_more names i none c.loop-name-test.true)) (c.nearer.ensures c.args.text.now (map (λ s. s.now) (take i names)) c.loop-name.invariant c.in_ok-edit_distance.ensures)
+    subst P (sym (one_more names i none c.loop-name-test.true)) (c.nearer.ensures c.args.text.now (map (λ s. s.now) (take i names)) c.loop-name.invariant c.in_ok-distance.ensures)

@@ -5,6 +5,6 @@ use Rattle.bf_graph.proofs.climb.find_ranks_and_reach.Given as goal
 
 abbrev pub invariant-loop-t : goal.invariant-loop-t
 invariant-loop-t l = record {
-  down : IsDown l.edges l.rank_with_ancestors;
-  ranked : (k : ℕ) → k < l.t → rank_at l.rank_with_ancestors.found.ranks.items k ≢ None;
+  down : IsDown l.edges l.climb;
+  ranked : (k : ℕ) → k < l.t → rank_at l.climb.found.ranks.items k ≢ None;
 }

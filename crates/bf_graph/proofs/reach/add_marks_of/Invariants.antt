@@ -4,7 +4,7 @@ use Rattle.bf_graph.proofs.reach.add_marks_of.Given as goal
 
 abbrev pub invariant-loop-k : goal.invariant-loop-k
 invariant-loop-k l = record {
-  len : length l.add_marks_of-items ≡ length l.fn.row.items;
-  done : (j : ℕ) → j < l.k → is_marked_in l.add_marks_of-items j ≡ (is_marked_in l.fn.row.items j || is_marked_in l.other j);
-  left : (j : ℕ) → l.k ≤ j → is_marked_in l.add_marks_of-items j ≡ is_marked_in l.fn.row.items j;
+  len : length l.mark-items ≡ length l.fn.row.items;
+  done : (j : ℕ) → j < l.k → is_marked_in l.mark-items j ≡ (is_marked_in l.fn.row.items j || is_marked_in l.other j);
+  left : (j : ℕ) → l.k ≤ j → is_marked_in l.mark-items j ≡ is_marked_in l.fn.row.items j;
 }

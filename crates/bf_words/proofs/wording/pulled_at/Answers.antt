@@ -4,4 +4,4 @@ use Rattle.std.specs.Prelude.{unwrap_or}
 use Rattle.bf_words.proofs.wording.pulled_at.Goals as goal
 
 pub returns-in-None : goal.returns-in-None
-returns-in-None c = ap (λ o. unwrap_or o None) c.in-None.ensures ∙ unwrap_or-slice_get c.args.given.now.pulled_at c.args.place None
+returns-in-None c = ap (λ o. unwrap_or o None) c.in-None.ensures ∙ unwrap_or-slice_get c.args.given.now.pulled c.args.place None

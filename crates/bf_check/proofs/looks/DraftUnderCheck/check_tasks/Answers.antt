@@ -9,6 +9,6 @@ returns-clause-found c =
     record {
       graph_is = c.requires.graph;
       rules_are = c.requires.rules;
-      pulls_are = c.in_ok-check_pulls.ensures.pulls ∙ ap (λ (ids : List (List ℕ)). map (pulls_in ids) tasks) ids;
-      sources_are = c.in_ok-check_expansions.ensures.sources ∙ ap (λ (ids : List (List ℕ)). map (source_in ids) tasks) ids;
+      pulls_are = c.in_ok-pulls.ensures.pulls ∙ ap (λ (ids : List (List ℕ)). map (pulls_in ids) tasks) ids;
+      sources_are = c.in_ok-sources.ensures.sources ∙ ap (λ (ids : List (List ℕ)). map (source_in ids) tasks) ids;
     }

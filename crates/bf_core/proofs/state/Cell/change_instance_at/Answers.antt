@@ -9,4 +9,4 @@ pub returns-in-Ran : goal.returns-in-Ran
 returns-in-Ran c =
     let there : IsSome (instance_of (Cell.Ran c.in-Ran.instances) c.args.place) = rw c.in-Ran.is at c.requires.there in
     rw c.in-Ran.is (rw (← c.instances.view_is) (ap Cell.Ran
-    (changed_set (changed c.args.change) _ c.args.place c.index_mut-instance.result.now _ (some_below _ c.args.place (rw (← c.instances.view_is) at there)) c.index_mut-instance.ensures.value c.change_instance_at.ensures)))
+    (changed_set (changed c.args.change) _ c.args.place c.index_mut-instance.result.now _ (some_below _ c.args.place (rw (← c.instances.view_is) at there)) c.index_mut-instance.ensures.value c.change.ensures)))

@@ -5,5 +5,5 @@ use Rattle.bf_graph.proofs.ids.Ids.number_of.Goals as goal
 pub returns : goal.returns
 returns c =
     let found = c.get.ensures.value ∙ c.self.invariant c.args.id.now ∙ ap (position (bytes_eq c.args.id.now)) c.self.view_is in
-    let same : c.copy_of.result ≡ option_copied c.get.result = search rules in
+    let same : c.copied.result ≡ option_copied c.get.result = search rules in
     same ∙ found

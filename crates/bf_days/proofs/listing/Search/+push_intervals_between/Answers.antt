@@ -5,7 +5,7 @@ use Rattle.bf_interval.specs.declared.fault.IntervalFault.TheVariants.{TooManyRu
 use Rattle.bf_days.specs.Listing.{AreIntervalsBetween}
 use Rattle.bf_days.specs.inner.Listing.{are_on, IsAddFault, IsKeptFault}
 use Rattle.bf_days.proofs.Keeping.{added, not_added, two_from, on_ok, if_err}
-use Rattle.bf_days.proofs.listing.Search.+add.Goals as goal
+use Rattle.bf_days.proofs.listing.Search.+push_intervals_between.Goals as goal
 
 pub returns-in-Ok-clause-ok : goal.returns-in-Ok-clause-ok
 returns-in-Ok-clause-ok t c =
