@@ -2,7 +2,7 @@
 # Refuses each call for memory, each open, each read, each write and each look at the clock of runs of the program in turn, and of runs that
 # keep logs each look at a file and each removal too. A run has
 # to end as if nothing was refused, or by the fault that the refused call is, with nothing (or, of a refused write, a beginning of the
-# report) on standard output. A look at the clock that fails is no fault. Of each run ./test refuses each third call, and ./test --whole
+# report) on standard output. A look at the clock that fails is no fault. Of each run ./test refuses each seventh call, and ./test --whole
 # all. Needs a C compiler. The last line is the sum, and the status is 1 where a call ended a run otherwise.
 set -euo pipefail
 
@@ -11,7 +11,7 @@ source "$(dirname "$(readlink -f "${BASH_SOURCE[0]}")")/../shared/count.sh"
 [[ -n $(command -v cc) ]] || skips_rest 'each call refused in turn, since there is no C compiler'
 cc -shared -fPIC -O1 -o "$work/refuse.so" "$root/tests/shared/refuse.c"
 
-step=3
+step=7
 [[ ${TEST_SEEDS:-} != whole ]] || step=1
 
 # Runs the program with the call of this kind and number refused. At number 0 none is, and the calls are counted.

@@ -1,7 +1,7 @@
 #!/usr/bin/env bash
 # Refuses each open, read, write, look, lock, cut and sync, and each request for memory, of backfills that record their tries, in turn, and
 # kills the program before and behind each. Then the same line, undisturbed, ends with the report and the status of an untouched backfill,
-# makes no try again that was recorded, and records none twice. So does README's own example. ./test takes each third call, and ./test --whole
+# makes no try again that was recorded, and records none twice. So does README's own example. ./test takes each seventh call, and ./test --whole
 # all. Needs a C compiler. The last line is the sum, and the status is 1 where something differs.
 set -euo pipefail
 
@@ -10,7 +10,7 @@ source "$(dirname "$(readlink -f "${BASH_SOURCE[0]}")")/../shared/journals.sh"
 [[ -n $(command -v cc) ]] || skips_rest 'calls that are refused, since there is no C compiler'
 cc -shared -fPIC -O1 -o refuse.so "$root/tests/shared/refuse.c"
 
-step=3
+step=7
 [[ ${TEST_SEEDS:-} != whole ]] || step=1
 
 # Runs the line with the call of this kind and number refused, or the program killed there.

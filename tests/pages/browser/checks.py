@@ -6,6 +6,7 @@ beside its report. What differs is told; the last line says how many rows held a
 import datetime
 import html.parser
 import json
+import os
 import pathlib
 import re
 import sys
@@ -24,6 +25,8 @@ FORBIDDEN = {"img", "iframe", "object", "embed", "link", "base", "form"}
 MOVES = re.compile("[\x7f-\x9f\xad\u061c\u200b-\u200f\u2028-\u202e\u2060-\u206f\ufeff\ufff9-\ufffb]")
 # A text of the details this long is cut.
 SHORT = 4000
+# Whether each place of a large page is looked at, and not each tenth.
+WHOLE = os.environ.get("TEST_SEEDS") == "whole"
 rows = differing = 0
 
 DETAILS = """(async () => {
@@ -165,15 +168,22 @@ class Sample:
         self.texts = [*paths[:3], cells, self.graph_text, self.report_text, times]
         self.explaining = explaining.Explaining(*paths[:2], self.graph_text, self.report_text)
 
-    def places(self):
-        """Each task of each run and each of its instances: what comes behind # in its address, the instance if it is one, and why it is so."""
+    def addresses(self):
+        """Each task of each run and each of its instances: what comes behind # in its address, the instance if it is one, and run, task and index."""
         for at, run in enumerate(self.report.runs):
             for task, instances in enumerate(run.tasks):
                 place = f"{run.start}/{self.graph.id(task)}"
-                yield place, instances[0] if instances[0].index < 0 else None, list(self.explaining.why(at, task, None))
+                yield place, instances[0] if instances[0].index < 0 else None, (at, task, None)
                 for instance in instances:
                     if instance.index >= 0:
-                        yield f"{place}/{instance.index}", instance, list(self.explaining.why(at, task, instance.index))
+                        yield f"{place}/{instance.index}", instance, (at, task, instance.index)
+
+    def places(self):
+        """The addresses that are looked at, all of a small page, with why each is so."""
+        addresses = list(self.addresses())
+        step = 1 if WHOLE or len(addresses) < 100 else 10
+        for place, instance, where in addresses[::step]:
+            yield place, instance, list(self.explaining.why(*where))
 
 
 def details_of(instance):
