@@ -243,9 +243,18 @@ def cells_text(graph, report, report_bytes):
 
 
 def pieces(root):
-    """The fixed pieces of a page."""
-    source = (pathlib.Path(root) / "crates/bf_texts/src/page.rt").read_text("ascii")
-    return re.findall(r'pub const \w+: &str = r##"(.*?)"##;', source, re.S)
+    """The fixed pieces of a page by name, in the order in which bf_page writes them. A list of parts is one piece."""
+    crates = pathlib.Path(root) / "crates"
+    source = (crates / "bf_texts/src/page.rt").read_text("ascii")
+    constant = re.compile(r'const (\w+): &str =\s+r##"(.*?)"##;', re.S)
+    texts = dict(constant.findall(source))
+    for part in (crates / "bf_texts/src/page").glob("*.rt"):
+        texts |= {f"{part.stem}::{name}": text for name, text in constant.findall(part.read_text("ascii"))}
+    texts |= {name: texts[path] for path, name in re.findall(r"pub use (\w+::(\w+));", source)}
+    for name, parts in re.findall(r"const (\w+): \[&str; \d+\] = \[(.*?)\];", source, re.S):
+        texts[name] = "".join(texts[part] for part in re.findall(r"[\w:]+", parts))
+    written = (crates / "bf_page/src/page.rt").read_text("utf-8")
+    return {name: texts[name] for name in re.findall(r"\bpage::([A-Z_]+)", written)}
 
 
 def page(fixed, paths, graph_text, report_text, states_only=False, times=""):

@@ -19,7 +19,7 @@ import recursion
 import showing
 import timing
 
-FIXED = showing.pieces(pathlib.Path(__file__).resolve().parents[2])
+FIXED = list(showing.pieces(pathlib.Path(__file__).resolve().parents[2]).values())
 
 
 def records_of(chance, graph, report):

@@ -1,7 +1,8 @@
 #!/usr/bin/env bash
-# Looks at the fixed pieces of the page that shows a report, crates/bf_texts/src/page.rt: there are eight, each text stands alone between two
-# tags, the policy names the hashes of the styles and of the script, so that a browser runs these and nothing else, and the script makes
-# neither elements nor code of a text. It takes python3. The last line is the sum, and the status is 1 where something differs.
+# Looks at the fixed pieces of the page that shows a report, crates/bf_texts/src/page.rt and the files in page/: there are eight, each text
+# stands alone between two tags, the policy names the hashes of the styles and of the script, so that a browser runs these and nothing
+# else, and the script makes neither elements nor code of a text. It takes python3. The last line is the sum, and the status is 1 where
+# something differs.
 set -euo pipefail
 
 source "$(dirname "$(readlink -f "${BASH_SOURCE[0]}")")/../shared/count.sh"
@@ -11,7 +12,7 @@ found() {
     python3 "$root/tests/shared/page_pieces.py" "$root" "$1"
 }
 
-is_same 'the pieces' 'TO_GRAPH_PATH TO_REPORT_PATH TO_ZONE_PATH TO_CELLS TO_GRAPH TO_REPORT TO_TIMES END' "$(found names)"
+is_same 'the pieces' 'TO_GRAPH_PATH TO_REPORT_PATH TO_ZONE_PATH TO_CELLS TO_GRAPH TO_REPORT TO_TIMES BEHIND_TIMES' "$(found names)"
 tags=''
 for name in graph-path report-path zone-path cells graph report times; do
     tags+="<script type=\"text/plain\" id=\"$name\"> </script>"$'\n'

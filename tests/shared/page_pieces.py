@@ -3,8 +3,10 @@
 import base64, hashlib, pathlib, re, sys
 
 root, asked = sys.argv[1:]
-source = pathlib.Path(root, "crates/bf_texts/src/page.rt").read_text("ascii")
-pieces = dict(re.findall(r'pub const (\w+): &str = r##"(.*?)"##;', source, re.S))
+sys.path.insert(0, str(pathlib.Path(root) / "tests/oracles"))
+import showing  # noqa: E402
+
+pieces = showing.pieces(root)
 page = "".join(pieces.values())
 texts = list(pieces.values())
 

@@ -45,10 +45,28 @@ told_length (text ∷ told) is =
     let parts = or_false (is_long text) (list_any is_long told) is in
     omega (arith, length-append (safe text) (concat (map safe told)), length_safe text, short text parts.0, told_length told parts.1)
 
--- of so many pieces and texts, none of them long, 64 bits count the bytes
-pub woven_counted : (fixed told : List (List ℕ)) → length fixed ≤ 8 → length told ≤ 7 → list_any is_long fixed ≡ false → list_any is_long told ≡ false
-    → length (concat (woven fixed told)) < 18_446_744_073_709_551_616
-woven_counted fixed told eight seven pieces texts = omega (arith, length_woven fixed told, fixed_length fixed pieces, told_length told texts, eight, seven)
+length_behind : (fixed : List (List ℕ)) (last : List ℕ) → length (concat (fixed ++ last ∷ [])) ≡ length (concat fixed) + length last
+length_behind [] last = omega (arith, length-append last [])
+length_behind (piece ∷ fixed) last = omega (arith, length-append piece (concat (fixed ++ last ∷ [])), length-append piece (concat fixed), length_behind fixed last)
+
+-- of so many texts, none of them long, 64 bits count the bytes
+pub woven_counted : (fixed last told : List (List ℕ)) → length fixed + length last ≤ 42 → length told ≤ 7 → list_any is_long fixed ≡ false → list_any is_long last ≡ false → list_any is_long told ≡ false
+    → length (concat (woven (fixed ++ concat last ∷ []) told)) < 18_446_744_073_709_551_616
+woven_counted fixed last told few seven pieces ends texts =
+    omega (arith, length_woven (fixed ++ concat last ∷ []) told, length_behind fixed (concat last), fixed_length fixed pieces, fixed_length last ends, told_length told texts, few, seven)
+
+long : (text : List ℕ) → length text ≤ 288_230_376_151_711_744 → is_long text ≡ false
+long text is = grind (arith, nat_tests)
+
+-- none of seven texts is long, of which the graph and the report are looked at apart
+pub none_long : (a b c d e graph report : List ℕ) → list_any is_long (a ∷ b ∷ c ∷ d ∷ e ∷ []) ≡ false → length graph ≤ 288_230_376_151_711_744 → length report ≤ 288_230_376_151_711_744
+    → list_any is_long (a ∷ b ∷ c ∷ d ∷ graph ∷ report ∷ e ∷ []) ≡ false
+none_long a b c d e graph report five graph_is report_is =
+    let (no_a, from_b) = or_false (is_long a) (list_any is_long (b ∷ c ∷ d ∷ e ∷ [])) five in
+    let (no_b, from_c) = or_false (is_long b) (list_any is_long (c ∷ d ∷ e ∷ [])) from_b in
+    let (no_c, from_d) = or_false (is_long c) (list_any is_long (d ∷ e ∷ [])) from_c in
+    let (no_d, from_e) = or_false (is_long d) (list_any is_long (e ∷ [])) from_d in
+    rw (no_a, no_b, no_c, no_d, long graph graph_is, long report report_is) from_e
 
 pub unset : (b : Bool) → not b ≡ true → b ≡ false
 unset true is = cc

@@ -1,19 +1,19 @@
 -- A page in its pieces.
 use Rattle.std.proofs.Common.{◌≡◌, ℕ, List, [], ◌∷◌, ◌++◌, append_assoc}
 use Rattle.std.specs.List.{concat, filter}
-use Rattle.std.proofs.lemmas.List.{append_cancel_left}
+use Rattle.std.proofs.lemmas.List.{append-nil, append_cancel_left}
 use Rattle.std.proofs.lemmas.List.Elements.{filter-append}
 use Rattle.bf_page.specs.Safe.{safe, is_tag}
 use Rattle.bf_page.proofs.SafeFacts.{no_tags, read_off}
 
-in_a_row : (f0 t0 f1 t1 f2 t2 f3 t3 f4 t4 f5 t5 f6 t6 f7 : List ℕ) → (f0 ++ safe t0) ++ ((f1 ++ safe t1) ++ ((f2 ++ safe t2) ++ ((f3 ++ safe t3) ++ ((f4 ++ safe t4) ++ ((f5 ++ safe t5) ++ ((f6 ++ safe t6) ++ ((f7 ++ []) ++ []))))))) ≡ concat (f0 ∷ safe t0 ∷ f1 ∷ safe t1 ∷ f2 ∷ safe t2 ∷ f3 ∷ safe t3 ∷ f4 ∷ safe t4 ∷ f5 ∷ safe t5 ∷ f6 ∷ safe t6 ∷ f7 ∷ [])
-in_a_row f0 t0 f1 t1 f2 t2 f3 t3 f4 t4 f5 t5 f6 t6 f7 = simp append_assoc
+in_a_row : (f0 t0 f1 t1 f2 t2 f3 t3 f4 t4 f5 t5 f6 t6 last : List ℕ) → ((f0 ++ safe t0) ++ ((f1 ++ safe t1) ++ ((f2 ++ safe t2) ++ ((f3 ++ safe t3) ++ ((f4 ++ safe t4) ++ ((f5 ++ safe t5) ++ ((f6 ++ safe t6) ++ []))))))) ++ last ≡ concat (f0 ∷ safe t0 ∷ f1 ∷ safe t1 ∷ f2 ∷ safe t2 ∷ f3 ∷ safe t3 ∷ f4 ∷ safe t4 ∷ f5 ∷ safe t5 ∷ f6 ∷ safe t6 ∷ last ∷ [])
+in_a_row f0 t0 f1 t1 f2 t2 f3 t3 f4 t4 f5 t5 f6 t6 last = simp (append_assoc, append-nil)
 
--- eight pieces, each the same as one of these
-pub pieces_in_a_row : {f0 t0 f1 t1 f2 t2 f3 t3 f4 f5 f6 t6 f7 g0 u0 g1 u1 g2 u2 g3 u3 g4 g5 g6 u6 g7 : List ℕ} (t4 t5 : List ℕ) → g0 ≡ f0 → u0 ≡ t0 → g1 ≡ f1 → u1 ≡ t1 → g2 ≡ f2 → u2 ≡ t2 → g3 ≡ f3 → u3 ≡ t3 → g4 ≡ f4 → g5 ≡ f5 → g6 ≡ f6 → u6 ≡ t6 → g7 ≡ f7 →
-    (g0 ++ safe u0) ++ ((g1 ++ safe u1) ++ ((g2 ++ safe u2) ++ ((g3 ++ safe u3) ++ ((g4 ++ safe t4) ++ ((g5 ++ safe t5) ++ ((g6 ++ safe u6) ++ ((g7 ++ []) ++ []))))))) ≡ concat (f0 ∷ safe t0 ∷ f1 ∷ safe t1 ∷ f2 ∷ safe t2 ∷ f3 ∷ safe t3 ∷ f4 ∷ safe t4 ∷ f5 ∷ safe t5 ∷ f6 ∷ safe t6 ∷ f7 ∷ [])
-pieces_in_a_row {f0} {t0} {f1} {t1} {f2} {t2} {f3} {t3} {f4} {f5} {f6} {t6} {f7} t4 t5 e0 d0 e1 d1 e2 d2 e3 d3 e4 e5 e6 d6 e7 =
-    rw (e0, d0, e1, d1, e2, d2, e3, d3, e4, e5, e6, d6, e7) (in_a_row f0 t0 f1 t1 f2 t2 f3 t3 f4 t4 f5 t5 f6 t6 f7)
+-- seven pieces and the last texts, each told text the same as one of these
+pub pieces_in_a_row : (f0 f1 f2 f3 f4 f5 f6 last t4 t5 : List ℕ) {t0 t1 t2 t3 t6 u0 u1 u2 u3 u6 : List ℕ} → u0 ≡ t0 → u1 ≡ t1 → u2 ≡ t2 → u3 ≡ t3 → u6 ≡ t6 →
+    ((f0 ++ safe u0) ++ ((f1 ++ safe u1) ++ ((f2 ++ safe u2) ++ ((f3 ++ safe u3) ++ ((f4 ++ safe t4) ++ ((f5 ++ safe t5) ++ ((f6 ++ safe u6) ++ []))))))) ++ last ≡ concat (f0 ∷ safe t0 ∷ f1 ∷ safe t1 ∷ f2 ∷ safe t2 ∷ f3 ∷ safe t3 ∷ f4 ∷ safe t4 ∷ f5 ∷ safe t5 ∷ f6 ∷ safe t6 ∷ last ∷ [])
+pieces_in_a_row f0 f1 f2 f3 f4 f5 f6 last t4 t5 {t0} {t1} {t2} {t3} {t6} e0 e1 e2 e3 e6 =
+    rw (e0, e1, e2, e3, e6) (in_a_row f0 t0 f1 t1 f2 t2 f3 t3 f4 t4 f5 t5 f6 t6 last)
 
 pub tags_in_a_row : (f0 t0 f1 t1 f2 t2 f3 t3 f4 t4 f5 t5 f6 t6 f7 : List ℕ) → filter is_tag (concat (f0 ∷ safe t0 ∷ f1 ∷ safe t1 ∷ f2 ∷ safe t2 ∷ f3 ∷ safe t3 ∷ f4 ∷ safe t4 ∷ f5 ∷ safe t5 ∷ f6 ∷ safe t6 ∷ f7 ∷ [])) ≡ filter is_tag (concat (f0 ∷ f1 ∷ f2 ∷ f3 ∷ f4 ∷ f5 ∷ f6 ∷ f7 ∷ []))
 tags_in_a_row f0 t0 f1 t1 f2 t2 f3 t3 f4 t4 f5 t5 f6 t6 f7 = simp (filter-append is_tag, no_tags)

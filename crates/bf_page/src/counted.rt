@@ -7,11 +7,12 @@ ghost use Rattle.bf_page.specs.Page.{page_text};
 use crate::page::PageTexts;
 use bf_texts::page;
 
-/// The longest text of which fifteen, each byte of them as three, have fewer bytes than 64 bits can say.
+/// The longest text of which 63 have fewer bytes than 64 bits can say: up to 42 fixed texts, and seven told ones with each
+/// byte as three.
 const LONGEST: usize = 288_230_376_151_711_744;
 
 /// Whether one of these texts is longer than LONGEST.
-fn has_long(texts: &[&[u8]]) -> bool
+fn has_long(texts: &[&str]) -> bool
     ensures { result ≡ list_any (λ text. is_long text.now) texts.now }
 {
     texts.iter().any(|text| text.len() > LONGEST)
@@ -23,23 +24,24 @@ pub fn can_be_counted(texts: &PageTexts<'_>) -> bool
     ensures { result ≡ true → length (page_text texts.now) < 2 ^ 64 }
 {
     let fixed = [
-        page::TO_GRAPH_PATH.as_bytes(),
-        page::TO_REPORT_PATH.as_bytes(),
-        page::TO_ZONE_PATH.as_bytes(),
-        page::TO_CELLS.as_bytes(),
-        page::TO_GRAPH.as_bytes(),
-        page::TO_REPORT.as_bytes(),
-        page::TO_TIMES.as_bytes(),
-        page::END.as_bytes(),
+        page::TO_GRAPH_PATH,
+        page::TO_REPORT_PATH,
+        page::TO_ZONE_PATH,
+        page::TO_CELLS,
+        page::TO_GRAPH,
+        page::TO_REPORT,
+        page::TO_TIMES,
     ];
     let told = [
-        texts.graph_path.as_bytes(),
-        texts.report_path.as_bytes(),
-        texts.zone_path.as_bytes(),
-        texts.cells.as_bytes(),
-        texts.graph,
-        texts.report,
-        texts.times.as_bytes(),
+        texts.graph_path,
+        texts.report_path,
+        texts.zone_path,
+        texts.cells,
+        texts.times,
     ];
-    !has_long(&fixed) && !has_long(&told)
+    !has_long(&fixed)
+        && !has_long(&page::BEHIND_TIMES)
+        && !has_long(&told)
+        && texts.graph.len() <= LONGEST
+        && texts.report.len() <= LONGEST
 }

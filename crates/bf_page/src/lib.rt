@@ -1,8 +1,9 @@
 //! The page that shows a report: one HTML file of eight fixed pieces, and between them seven texts.
 //!
-//! The fixed pieces are those of `bf_texts::page`. Each text stands between two tags, escaped by one rule, `safe`: `%`, `<`,
-//! carriage return and U+0000 as `%` and two digits, all else as it is. So a text can't end the tag that it stands in, and is read back
-//! byte by byte, by percent-decoding. `write_page` writes the page piece by piece; no text is copied.
+//! The fixed pieces are those of `bf_texts::page`, of which the last, with the script, is in parts. Each text stands between
+//! two tags, escaped by one rule, `safe`: `%`, `<`, carriage return and U+0000 as `%` and two digits, all else as it is. So a
+//! text can't end the tag that it stands in, and is read back byte by byte, by percent-decoding. `write_page` writes the page
+//! piece by piece; no text is copied.
 #![tactic(auto)]
 
 mod counted;

@@ -37,37 +37,33 @@ pub fn write_page<W: Write>(texts: &PageTexts<'_>, out: &mut W) -> Result<(), Wr
 {
     let pieces = [
         Piece {
-            fixed: page::TO_GRAPH_PATH.as_bytes(),
+            fixed: page::TO_GRAPH_PATH,
             told: texts.graph_path.as_bytes(),
         },
         Piece {
-            fixed: page::TO_REPORT_PATH.as_bytes(),
+            fixed: page::TO_REPORT_PATH,
             told: texts.report_path.as_bytes(),
         },
         Piece {
-            fixed: page::TO_ZONE_PATH.as_bytes(),
+            fixed: page::TO_ZONE_PATH,
             told: texts.zone_path.as_bytes(),
         },
         Piece {
-            fixed: page::TO_CELLS.as_bytes(),
+            fixed: page::TO_CELLS,
             told: texts.cells.as_bytes(),
         },
         Piece {
-            fixed: page::TO_GRAPH.as_bytes(),
+            fixed: page::TO_GRAPH,
             told: texts.graph,
         },
         Piece {
-            fixed: page::TO_REPORT.as_bytes(),
+            fixed: page::TO_REPORT,
             told: texts.report,
         },
         Piece {
-            fixed: page::TO_TIMES.as_bytes(),
+            fixed: page::TO_TIMES,
             told: texts.times.as_bytes(),
         },
-        Piece {
-            fixed: page::END.as_bytes(),
-            told: &[],
-        },
     ];
-    send_pieces(out, &pieces)
+    send_pieces(out, &pieces, &page::BEHIND_TIMES)
 }

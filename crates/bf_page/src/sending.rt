@@ -1,9 +1,8 @@
 //! A text in pieces, sent to a device.
 ghost use Rattle.std.specs.Prelude.{◌≡◌, ◌<◌, ◌≤◌, [], length, OnOk, IfErr, IfSome, IfNone};
-ghost use Rattle.std.specs.List.{flat_map};
 ghost use Rattle.bf_device.specs.Device.{sent, HasHalted, HasGoneOn};
 ghost use Rattle.bf_page.specs.Page.{EndsAt};
-ghost use Rattle.bf_page.specs.inner.Pieces.{piece_text, behind, steps_behind, left};
+ghost use Rattle.bf_page.specs.inner.Pieces.{whole, behind, steps_behind, left};
 
 use crate::safe::split_safe_front;
 use bf_device::{Cause, Halt, MOST_INTERRUPTIONS, Write, WriteFault};
@@ -11,26 +10,28 @@ use bf_device::{Cause, Halt, MOST_INTERRUPTIONS, Write, WriteFault};
 /// A piece that is fixed, and the text that is told behind it.
 #[derive(Clone, Copy)]
 pub(crate) struct Piece<'a> {
-    pub(crate) fixed: &'a [u8],
+    pub(crate) fixed: &'a str,
     pub(crate) told: &'a [u8],
 }
 
-/// What of a text is still to go out: bytes as they lie in memory, a text that is told behind them, and further
-/// pieces.
+/// What of a text is still to go out: bytes as they lie in memory, a text that is told behind them, further pieces, and
+/// the fixed texts behind all pieces.
 #[derive(Clone, Copy)]
 pub(crate) struct Rest<'a> {
     front: &'a [u8],
     told: &'a [u8],
     pieces: &'a [Piece<'a>],
+    last: &'a [&'a str],
 }
 
-/// The next bytes to write and what is behind them, where `told` is left of a text and then these pieces. The bytes
-/// may be none. None where nothing is left.
-fn next_rest<'a>(told: &'a [u8], pieces: &'a [Piece<'a>]) -> Option<Rest<'a>>
-    ensures none { IfNone result (behind told.now pieces.now ≡ []) }
-    ensures some { IfSome result (λ rest. left rest ≡ behind told.now pieces.now) }
+/// The next bytes to write and what is behind them, where `told` is left of a text and then these pieces and the last
+/// texts. The bytes may be none. None where nothing is left.
+fn next_rest<'a>(told: &'a [u8], pieces: &'a [Piece<'a>], last: &'a [&'a str]) -> Option<Rest<'a>>
+    ensures none { IfNone result (behind told.now pieces.now last.now ≡ []) }
+    ensures some { IfSome result (λ rest. left rest ≡ behind told.now pieces.now last.now) }
     ensures fewer { IfSome result (λ rest.
-        steps_behind rest.told.now rest.pieces.now < steps_behind told.now pieces.now) }
+        steps_behind rest.told.now rest.pieces.now rest.last.now
+        < steps_behind told.now pieces.now last.now) }
 {
     if !told.is_empty() {
         let (front, told) = split_safe_front(told);
@@ -38,13 +39,23 @@ fn next_rest<'a>(told: &'a [u8], pieces: &'a [Piece<'a>]) -> Option<Rest<'a>>
             front,
             told,
             pieces,
+            last,
         });
     }
-    match pieces.split_first() {
-        Some((piece, pieces)) => Some(Rest {
-            front: piece.fixed,
+    if let Some((piece, pieces)) = pieces.split_first() {
+        return Some(Rest {
+            front: piece.fixed.as_bytes(),
             told: piece.told,
             pieces,
+            last,
+        });
+    }
+    match last.split_first() {
+        Some((text, last)) => Some(Rest {
+            front: text.as_bytes(),
+            told: &[],
+            pieces: &[],
+            last,
         }),
         None => None,
     }
@@ -61,12 +72,16 @@ fn halted_after(sent: u64) -> WriteFault
     }
 }
 
-/// Writes these pieces, each text escaped, in whatever parts the device takes. A fault where a write fails or takes
-/// nothing, and at the 1,001st interruption; it says how many bytes went out.
-pub(crate) fn send_pieces<W: Write>(out: &mut W, pieces: &[Piece<'_>]) -> Result<(), WriteFault>
+/// Writes these pieces, each told text escaped, and the last texts behind them, in whatever parts the device takes. A
+/// fault where a write fails or takes nothing, and at the 1,001st interruption; it says how many bytes went out.
+pub(crate) fn send_pieces<W: Write>(
+    out: &mut W,
+    pieces: &[Piece<'_>],
+    last: &[&str],
+) -> Result<(), WriteFault>
     ensures ok { OnOk result (W.written out.new
-        ≡ sent (W.written out.old) (flat_map piece_text pieces.now)) }
-    ensures part { IfErr result (λ fault. EndsAt fault.sent (flat_map piece_text pieces.now)
+        ≡ sent (W.written out.old) (whole pieces.now last.now)) }
+    ensures part { IfErr result (λ fault. EndsAt fault.sent (whole pieces.now last.now)
         (W.written out.old) (W.written out.new)) }
     ensures only_io { IfErr result (λ fault. fault.cause ≡ Cause.Io) }
     ensures halted { IfErr result (λ _. HasHalted (W.failures out.old) (W.failures out.new)
@@ -78,12 +93,13 @@ pub(crate) fn send_pieces<W: Write>(out: &mut W, pieces: &[Piece<'_>]) -> Result
         front: &[],
         told: &[],
         pieces,
+        last,
     };
     let mut sent: u64 = 0;
     let mut interruptions = 0;
     loop {
         if rest.front.is_empty() {
-            match next_rest(rest.told, rest.pieces) {
+            match next_rest(rest.told, rest.pieces, rest.last) {
                 Some(more) => rest = more,
                 None => return Ok(()),
             }

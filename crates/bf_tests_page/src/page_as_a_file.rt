@@ -32,8 +32,10 @@ fn text(alloc: Global) -> Result<String, Fail> {
         "%3C/script>%253C%00",
         page::TO_TIMES,
         "@times 1\n",
-        page::END,
     ] {
+        text.push_str(piece)?;
+    }
+    for piece in page::BEHIND_TIMES {
         text.push_str(piece)?;
     }
     Ok(text)

@@ -1,4 +1,4 @@
--- Texts that are too long for the bytes of fifteen, each as three, to be counted.
+-- Texts that are too long for the bytes of 63 to be counted.
 use Rattle.std.specs.Prelude.{ℕ, nat_lt, Bool, List, length}
 
 abbrev pub is_long : List ℕ → Bool
