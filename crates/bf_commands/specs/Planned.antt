@@ -63,19 +63,28 @@ sum_line places =
     decimal (tasks_in places) ++ (codes " tasks in "
     ++ (decimal (runs_in places) ++ codes " runs\n"))
 
--- the text has a line for each task in a run of which each instance is cleared, or else for each instance, by date and in the order of the
--- file, and behind these their sum
-pub record IsClearPlan (dag : Dag) (intervals : List Interval) (was : Report) (what : ToClear)
-    (text : List ℕ) : Type 0 where
+-- the report isn't refused, what is cleared is known, and this follows from it
+pub record AreFollowing (dag : Dag) (intervals : List Interval) (was : Report) (what : ToClear)
+    (following : Following) : Type 0 where
   pub seeds : List Place
   pub are_cleared : AreCleared dag intervals was what seeds
   pub not_refused : report_fault what dag intervals was ≡ None
-  pub following : Following
   pub follows : AreDependents dag seeds (length intervals) following
+
+-- a line for each of these cleared places, and their sum
+pub record IsPlanText (dag : Dag) (intervals : List Interval) (places : List Place)
+    (text : List ℕ) : Type 0 where
   pub cleared : Heading
-  pub tells : TellsOf dag intervals (places_in dag following (length intervals)) cleared
-  pub text_is : text ≡ flat_map cleared_line cleared
-      ++ sum_line (places_in dag following (length intervals))
+  pub tells : TellsOf dag intervals places cleared
+  pub text_is : text ≡ flat_map cleared_line cleared ++ sum_line places
+
+-- the text has a line for each task in a run of which each instance is cleared, or else for each
+-- instance, by date and in the order of the file, and behind these their sum
+pub record IsClearPlan (dag : Dag) (intervals : List Interval) (was : Report) (what : ToClear)
+    (text : List ℕ) : Type 0 where
+  pub following : Following
+  pub are_following : AreFollowing dag intervals was what following
+  pub tells : IsPlanText dag intervals (places_in dag following (length intervals)) text
 
 -- nothing is cleared in the report for this; or memory or the device is wanting
 abbrev pub ClearPlanFault : Dag → List Interval → Report → ToClear → CommandFault → Type 0

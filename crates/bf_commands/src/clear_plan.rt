@@ -1,13 +1,15 @@
 //! The command `clear --plan`: what is cleared.
-ghost use Rattle.std.specs.Prelude.{◌≡◌, ◌++◌, IfErr, IfOk, OnOk, option_copied, string_bytes};
+ghost use Rattle.std.specs.Prelude.{◌≡◌, ◌++◌, IfErr, IfOk, OnOk, length, option_copied, string_bytes};
 ghost use Rattle.std.specs.List.{flat_map};
 ghost use Rattle.bf_command_fault.specs.Refusal.{Leaves, Sends};
+ghost use Rattle.bf_dependents.specs.Listing.{places_in};
 ghost use Rattle.bf_device.specs.Device.{HasHalted};
 ghost use Rattle.bf_commands.specs.Cleared.{IsUncleared};
-ghost use Rattle.bf_commands.specs.Planned.{begins_run_in, begins_task_in, cleared_line, place_before_in, runs_in, sum_line, tasks_in, IsClearPlan, ClearPlanFault};
+ghost use Rattle.bf_commands.specs.Planned.{begins_run_in, begins_task_in, cleared_line, place_before_in, runs_in, sum_line, tasks_in, IsClearPlan, IsPlanText, ClearPlanFault};
 
-use crate::cleared::{ToClear, kept_of, places_to_clear};
+use crate::cleared::{ToClear, keep_uncleared};
 use crate::heading::cleared_tasks_of;
+use bf_clear::Cleared;
 use bf_command_fault::CommandFault;
 use bf_dependents::{Place, dependents};
 use bf_device::{Write, send};
@@ -104,6 +106,32 @@ fn push_sum(text: &mut String, places: &[Place]) -> Result<(), OutOfMemory>
     Ok(())
 }
 
+/// A line for each of these cleared places, and their sum.
+fn plan_text_of(alloc: Global, dated: &DatedPlan, places: &[Place]) -> Result<String, OutOfMemory>
+    ensures { IfOk result (λ text. IsPlanText dated.now.plan.dag dated.now.runs places.now
+        (string_bytes text)) }
+{
+    let cleared = cleared_tasks_of(alloc, &dated.plan, &dated.runs, places)?;
+    let mut text = lines_of(alloc, cleared.as_slice())?;
+    push_sum(&mut text, places)?;
+    Ok(text)
+}
+
+/// The text of a clear plan of what follows from what is cleared: a line for each cleared task in a run, and their sum.
+fn plan_text_after(
+    alloc: Global,
+    dated: &DatedPlan,
+    kept: &Cleared<'_>,
+) -> Result<String, CommandFault>
+    ensures text { IfOk result (λ text. IsPlanText dated.now.plan.dag dated.now.runs
+        (places_in dated.now.plan.dag kept.now.cleared (length dated.now.runs)) (string_bytes text)) }
+    ensures memory { IfErr result (λ fault. fault ≡ CommandFault.OutOfMemory) }
+{
+    let runs = dated.runs.intervals().len() as u32;
+    let places = kept.followers().places(alloc, &dated.plan, runs)?;
+    Ok(plan_text_of(alloc, dated, places.as_slice())?)
+}
+
 /// The text of a clear plan: a line for each cleared task in a run, and their sum. A fault where the report isn't of
 /// this graph and these runs, or what is to be cleared isn't in it.
 fn clear_plan_text(
@@ -116,14 +144,8 @@ fn clear_plan_text(
         (string_bytes text)) }
     ensures fault { IfErr result (IsUncleared dated.now.plan.dag dated.now.runs report what.now) }
 {
-    let seeds = places_to_clear(alloc, dated, &report, what)?;
-    let kept = kept_of(alloc, dated, report, what, seeds.as_slice())?;
-    let runs = dated.runs.intervals().len() as u32;
-    let places = kept.followers().places(alloc, &dated.plan, runs)?;
-    let cleared = cleared_tasks_of(alloc, &dated.plan, &dated.runs, places.as_slice())?;
-    let mut text = lines_of(alloc, cleared.as_slice())?;
-    push_sum(&mut text, places.as_slice())?;
-    Ok(text)
+    let kept = keep_uncleared(alloc, dated, report, what)?;
+    plan_text_after(alloc, dated, &kept)
 }
 
 /// Writes what is cleared in a report, with all that follows from it: a line for each task in a run, by date and in

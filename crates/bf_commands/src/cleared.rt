@@ -5,7 +5,8 @@ ghost use Rattle.bf_dependents.specs.Dependents.{AreDependents};
 ghost use Rattle.bf_dependents.specs.Seeds.{places_in, seed_fault};
 ghost use Rattle.bf_clear.specs.Keeping.{kept_in};
 ghost use Rattle.bf_clear.specs.Matching.{refusal};
-ghost use Rattle.bf_commands.specs.Cleared.{report_fault, AreCleared, AreKeptFor, IsUnknown};
+ghost use Rattle.bf_commands.specs.Cleared.{report_fault, AreCleared, AreKeptFor, IsUncleared, IsUnknown};
+ghost use Rattle.bf_commands.specs.Planned.{AreFollowing};
 ghost use Rattle.bf_commands.specs.inner.Cleared.{IsUnknownNamed};
 
 use bf_clear::{Cleared, clear_places, clear_places_by_ids, failed_places};
@@ -93,4 +94,21 @@ pub(crate) fn kept_of<'a>(
         ToClear::Nothing => clear_places_by_ids(alloc, &dated.plan, &dated.runs, report, places),
         _ => clear_places(alloc, &dated.plan, &dated.runs, report, places),
     }
+}
+
+/// What is kept of a report where `what` is cleared with all that follows from it, and what follows. A fault where the
+/// report isn't of this graph and, unless `what` is nothing, of these tasks and runs, or a seed or line names nothing.
+pub(crate) fn keep_uncleared<'a>(
+    alloc: Global,
+    dated: &'a DatedPlan,
+    report: Report,
+    what: &ToClear,
+) -> Result<Cleared<'a>, CommandFault>
+    ensures following { IfOk result (λ kept. AreFollowing dated.entry.now.plan.dag
+        dated.entry.now.runs report what.now kept.cleared) }
+    ensures fault { IfErr result (IsUncleared dated.entry.now.plan.dag dated.entry.now.runs report
+        what.now) }
+{
+    let places = places_to_clear(alloc, dated, &report, what)?;
+    Ok(kept_of(alloc, dated, report, what, places.as_slice())?)
 }
