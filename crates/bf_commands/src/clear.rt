@@ -15,7 +15,7 @@ ghost use Rattle.bf_planning.specs.Clocks.{clocks_in};
 ghost use Rattle.bf_commands.specs.Programs.{launched_in, with_clocks};
 
 use crate::backfill::write_backfill;
-use crate::cleared::{ToClear, kept_of, places_to_clear};
+use crate::cleared::{ToClear, keep_uncleared, kept_of, places_to_clear};
 use crate::crew::Crew;
 use crate::heading::cleared_tasks_of;
 use crate::journal::Journal;
@@ -115,6 +115,37 @@ pub fn clear_in_report<'a>(
 }
 
 /// Goes on from a report, of which `what` is cleared with all that follows from it, and writes the new report; true
+/// where every run is a success. A table answers the other tries, or programs where `answers` is None.
+fn write_report_after<RT: Starter + Screen + Threads + Wait + Clock + Sync, W: Write>(
+    crew: &Crew<'_, RT>,
+    dated: &DatedPlan,
+    answers: Option<Table>,
+    report: Report,
+    what: &ToClear,
+    out: &mut W,
+) -> Result<bool, CommandFault>
+    ensures ok { IfOk result (λ success. Sends
+        (λ text. IsReportAfter (launched_in dated.now (launching_of crew.now.launching)
+        (RT.may_hear crew.now.rt.now))
+        answers dated.now.plan.dag dated.now.runs report what.now text success)
+        (W.written out.old) (W.written out.new)) }
+    ensures fault { IfErr result (ClearingFault (is_single_threaded_in crew.now.progress)
+        (with_clocks (launching_of crew.now.launching) (clocks_in dated.now))
+        (RT.may_lose crew.now.rt.now)
+        answers dated.now.plan.dag dated.now.runs report what.now) }
+    ensures left { IfErr result (Leaves (HasHalted (W.failures out.old) (W.failures out.new)
+        (W.interruptions out.old) (W.interruptions out.new))
+        (λ text. (success : Bool) × IsReportAfter
+        (launched_in dated.now (launching_of crew.now.launching) (RT.may_hear crew.now.rt.now))
+        answers dated.now.plan.dag dated.now.runs report what.now text success)
+        (W.written out.old) (W.written out.new)) }
+{
+    let kept = keep_uncleared(crew.alloc, dated, report, what)?;
+    let crew = crew.with_clocks(&dated.clocks);
+    write_backfill(&crew, &dated.plan, &dated.runs, &kept, answers, out)
+}
+
+/// Goes on from a report, of which `what` is cleared with all that follows from it, and writes the new report; true
 /// where every run is a success. A table answers the other tries where one was prepared, else programs.
 pub fn write_resumed_report<RT: Starter + Screen + Threads + Wait + Clock + Sync, W: Write>(
     crew: &Crew<'_, RT>,
@@ -140,16 +171,7 @@ pub fn write_resumed_report<RT: Starter + Screen + Threads + Wait + Clock + Sync
         (W.written out.old) (W.written out.new)) }
 {
     let Prepared { dated, answers } = prepared;
-    let clearing = clear_in_report(crew.alloc, &dated, report, what)?;
-    let crew = crew.with_clocks(&dated.clocks);
-    write_backfill(
-        &crew,
-        &dated.plan,
-        &dated.runs,
-        &clearing.kept,
-        answers,
-        out,
-    )
+    write_report_after(crew, &dated, answers, report, &what, out)
 }
 
 /// Goes on from a journal, and else from what is kept of a report, and writes the new report. Each other try is

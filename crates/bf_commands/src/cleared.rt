@@ -5,7 +5,7 @@ ghost use Rattle.bf_dependents.specs.Dependents.{AreDependents};
 ghost use Rattle.bf_dependents.specs.Seeds.{places_in, seed_fault};
 ghost use Rattle.bf_clear.specs.Keeping.{kept_in};
 ghost use Rattle.bf_clear.specs.Matching.{refusal};
-ghost use Rattle.bf_commands.specs.Cleared.{report_fault, AreCleared, AreKeptFor, IsUncleared, IsUnknown};
+ghost use Rattle.bf_commands.specs.Cleared.{report_fault, AreCleared, AreKeptFor, IsKeptOf, IsUncleared, IsUnknown};
 ghost use Rattle.bf_commands.specs.Planned.{AreFollowing};
 ghost use Rattle.bf_commands.specs.inner.Cleared.{IsUnknownNamed};
 
@@ -104,6 +104,9 @@ pub(crate) fn keep_uncleared<'a>(
     report: Report,
     what: &ToClear,
 ) -> Result<Cleared<'a>, CommandFault>
+    ensures kept { IfOk result (λ kept. IsKeptOf dated.entry.now.plan.dag dated.entry.now.runs
+        report what.now (kept_in kept)) }
+    ensures fit { IfOk result (λ kept. AreFit dated.entry.now.plan.dag (kept_in kept)) }
     ensures following { IfOk result (λ kept. AreFollowing dated.entry.now.plan.dag
         dated.entry.now.runs report what.now kept.cleared) }
     ensures fault { IfErr result (IsUncleared dated.entry.now.plan.dag dated.entry.now.runs report

@@ -1,4 +1,7 @@
 use Rattle.std.proofs.Common.{List, subst}
+use Rattle.bf_dependents.specs.declared.place.Place.{Place}
+use Rattle.bf_clear.specs.Keeping.{kept_in}
+use Rattle.bf_commands.specs.Cleared.{AreKeptFor}
 use Rattle.bf_commands.proofs.ClearFaults.{mismatch_uncleared, unknown_uncleared}
 use Rattle.bf_planning.proofs.Results.{handed_on}
 use Rattle.bf_commands.proofs.cleared.keep_uncleared.Goals as goal
@@ -10,3 +13,14 @@ returns-in_err-places-clause-fault c =
 pub returns-in_err-kept_of-clause-fault : goal.returns-in_err-kept_of-clause-fault
 returns-in_err-kept_of-clause-fault c =
     handed_on _ _ c.from_residual-in_err-kept_of.ensures.1 (mismatch_uncleared c.args.dated.now.plan.dag c.args.dated.now.runs c.args.report c.args.what.now c.in_ok-places.places.items c.in_ok-places.ensures.ok _ c.in_err-kept_of.ensures.err)
+
+pub returns-clause-kept : goal.returns-clause-kept
+returns-clause-kept c =
+    let dag = c.args.dated.now.plan.dag in
+    let runs = c.args.dated.now.runs in
+    record {
+      places = c.in_ok-places.places.items;
+      are_cleared = c.in_ok-places.ensures.ok;
+      not_refused = c.in_ok-kept_of.ensures.ok;
+      are_kept = subst (λ (places : List Place). AreKeptFor c.args.what.now dag runs places c.args.report (kept_in c.in_ok-kept_of.field-0)) c.as_slice.ensures.value c.in_ok-kept_of.ensures.kept;
+    }
