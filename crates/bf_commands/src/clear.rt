@@ -142,7 +142,9 @@ fn write_report_after<RT: Starter + Screen + Threads + Wait + Clock + Sync, W: W
 {
     let kept = keep_uncleared(crew.alloc, dated, report, what)?;
     let crew = crew.with_clocks(&dated.clocks);
-    write_backfill(&crew, &dated.plan, &dated.runs, &kept, answers, out)
+    let written = write_backfill(&crew, &dated.plan, &dated.runs, &kept, answers, out);
+    drop(kept);
+    written
 }
 
 /// Goes on from a report, of which `what` is cleared with all that follows from it, and writes the new report; true
@@ -171,7 +173,9 @@ pub fn write_resumed_report<RT: Starter + Screen + Threads + Wait + Clock + Sync
         (W.written out.old) (W.written out.new)) }
 {
     let Prepared { dated, answers } = prepared;
-    write_report_after(crew, &dated, answers, report, &what, out)
+    let written = write_report_after(crew, &dated, answers, report, &what, out);
+    drop(dated);
+    written
 }
 
 /// Goes on from a journal, and else from what is kept of a report, and writes the new report. Each other try is

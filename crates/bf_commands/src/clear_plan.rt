@@ -145,7 +145,9 @@ fn clear_plan_text(
     ensures fault { IfErr result (IsUncleared dated.now.plan.dag dated.now.runs report what.now) }
 {
     let kept = keep_uncleared(alloc, dated, report, what)?;
-    plan_text_after(alloc, dated, &kept)
+    let text = plan_text_after(alloc, dated, &kept);
+    drop(kept);
+    text
 }
 
 /// Writes what is cleared in a report, with all that follows from it: a line for each task in a run, by date and in

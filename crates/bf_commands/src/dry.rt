@@ -71,5 +71,7 @@ pub fn run_dry<RT: Starter + Screen + Threads + Wait + Clock + Sync, W: Write>(
         (W.written out.old) (W.written out.new)) }
 {
     let timed = timed_plan_in(crew.alloc, graph, zone_file)?;
-    write_dry(crew, &timed, table, range, out)
+    let written = write_dry(crew, &timed, table, range, out);
+    drop(timed);
+    written
 }

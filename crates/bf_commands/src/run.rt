@@ -49,7 +49,9 @@ pub fn run_programs<RT: Starter + Screen + Threads + Wait + Clock + Sync, W: Wri
 {
     let dated = dated_plan_in(crew.alloc, graph, zone_file, range)?;
     let crew = crew.with_clocks(&dated.clocks);
-    write_backfill(&crew, &dated.plan, &dated.runs, &NothingKept, None, out)
+    let written = write_backfill(&crew, &dated.plan, &dated.runs, &NothingKept, None, out);
+    drop(dated);
+    written
 }
 
 /// Goes on from a journal with the programs of the tasks, records each other try in it as it ends, and writes the

@@ -77,5 +77,7 @@ pub fn run_single<RT: Starter + Screen + Threads + Wait + Clock + Sync, W: Write
         (W.written out.old) (W.written out.new)) }
 {
     let timed = timed_plan_in(alloc, graph, zone_file)?;
-    write_single(rt, alloc, &timed.plan, table, at, out)
+    let written = write_single(rt, alloc, &timed.plan, table, at, out);
+    drop(timed);
+    written
 }

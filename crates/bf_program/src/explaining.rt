@@ -114,7 +114,10 @@ fn explain_command<S: Source, E: Write>(
 {
     match command {
         Asked::Check(check) => explain_asked_check(alloc, check, files, err),
-        _ => Ok(()),
+        other => {
+            drop(other);
+            Ok(())
+        }
     }
 }
 

@@ -68,7 +68,10 @@ where
 {
     let new = match folder.begin_replacement(alloc, path.as_str()) {
         Ok(new) => new,
-        Err(fault) => return Err(fault_of_replacing(fault, path)),
+        Err(fault) => {
+            drop(command);
+            return Err(fault_of_replacing(fault, path));
+        }
     };
     let mut page = Page::new(new);
     match answer_command(rt, alloc, command, canvas, files, journals, &mut page) {
