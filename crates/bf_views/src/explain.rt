@@ -164,7 +164,9 @@ pub fn answer_explain<S: Source, W: Write>(
     let paths = paths_of(alloc, &asked)?;
     let planned = read_plan(alloc, asked.graph, files)?;
     let report = read_report_file(alloc, asked.report, files)?;
-    let text = explain_run_or_task(alloc, &paths, &planned.plan, &report, start, &asked.task)?;
-    send(out, text.as_bytes())?;
+    let text = explain_run_or_task(alloc, &paths, &planned.plan, &report, start, &asked.task);
+    drop(report);
+    drop(planned);
+    send(out, text?.as_bytes())?;
     Ok(Status::Success)
 }
