@@ -3,3 +3,4 @@ pub mod Planned
 pub mod Times
 pub mod Writing
 pub mod ExplainFaults
+pub mod ReadFor

@@ -7,6 +7,7 @@ ghost use Rattle.bf_report_reader.specs.Rules.{IsShownReport};
 ghost use Rattle.bf_views.specs.Matching.{is_of_graph};
 ghost use Rattle.bf_views.specs.PageFaults.{IsPageFault};
 ghost use Rattle.bf_views.specs.Pages.{IsPage, IsPageAnswer, report_shown, words_asked};
+ghost use Rattle.bf_views.specs.inner.ReadFor.{IsReadForPage};
 ghost use Rattle.bf_views.specs.inner.Writing.{IsWritingFault};
 
 use crate::matching::refuse_other_graph;
@@ -130,6 +131,38 @@ fn write_report_page<W: Write>(
     Ok(())
 }
 
+/// Writes the page of a report beside its plan and graph file, with the times of the journal at the path `journal`,
+/// where one is named. Refuses a report or a journal of another graph.
+fn write_page_beside<S: Source, W: Write>(
+    alloc: Global,
+    words: &Words,
+    planned: &Planned,
+    report: &Report,
+    journal: Option<String>,
+    files: &mut S,
+    out: &mut W,
+) -> Result<Status, CommandFault>
+    requires { IsShownReport report.now }
+    ensures answer { (asked : PageAsked) → IsReadForPage (S.file files.old) asked words.now
+        planned.now report.now (option_map string_bytes journal)
+        → IfOk result (λ status. Sends (λ text. IsPageAnswer (S.file files.old) asked text status)
+        (W.written out.old) (W.written out.new)) }
+    ensures fault { (asked : PageAsked) → IsReadForPage (S.file files.old) asked words.now
+        planned.now report.now (option_map string_bytes journal)
+        → IfErr result (IsPageFault (S.file files.old) asked) }
+    ensures left { (asked : PageAsked) → IsReadForPage (S.file files.old) asked words.now
+        planned.now report.now (option_map string_bytes journal)
+        → IfErr result (Leaves (HasHalted (W.failures out.old) (W.failures out.new)
+        (W.interruptions out.old) (W.interruptions out.new))
+        (λ text. (status : Status) × IsPageAnswer (S.file files.old) asked text status)
+        (W.written out.old) (W.written out.new)) }
+{
+    refuse_other_graph(alloc, planned.plan.dag(), report)?;
+    let times = read_times(alloc, journal, &planned.plan, report, files)?;
+    write_report_page(alloc, words, planned, report, times.as_str(), out)?;
+    Ok(Status::Success)
+}
+
 /// Does the command `page`: reads the files and checks the graph, reads the report, and the journal where one is
 /// named, and writes the page. Refuses a report or a journal of another graph. The report may be of `single`, and of
 /// any range.
@@ -151,8 +184,9 @@ pub fn answer_page<S: Source, W: Write>(
     let words = Words::of(alloc, &asked)?;
     let planned = read_plan(alloc, asked.graph, files)?;
     let report = read_report_file(alloc, asked.report, files)?;
-    refuse_other_graph(alloc, planned.plan.dag(), &report)?;
-    let times = read_times(alloc, asked.journal, &planned.plan, &report, files)?;
-    write_report_page(alloc, &words, &planned, &report, times.as_str(), out)?;
-    Ok(Status::Success)
+    let written =
+        write_page_beside(alloc, &words, &planned, &report, asked.journal, files, out);
+    drop(report);
+    drop(planned);
+    written
 }

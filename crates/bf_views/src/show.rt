@@ -3,15 +3,17 @@ ghost use Rattle.std.specs.Prelude.{◌≡◌, IfOk, IfErr, OnOk};
 ghost use Rattle.bf_command_fault.specs.Refusal.{Leaves, Sends};
 ghost use Rattle.bf_command_fault.specs.declared.status.Status.{Status};
 ghost use Rattle.bf_device.specs.Device.{HasHalted, sent};
+ghost use Rattle.bf_disk.specs.Files.{Files};
 ghost use Rattle.bf_grid.specs.Grid.{grid_text};
 ghost use Rattle.bf_views.specs.GridFaults.{IsGridFault};
 ghost use Rattle.bf_views.specs.Grids.{IsGridAnswer, is_colored_in, view_asked};
+ghost use Rattle.bf_views.specs.inner.ReadFor.{IsReadForGrid};
 ghost use Rattle.bf_views.specs.inner.Writing.{IsWritingFault};
 
 use crate::bounds::Bounds;
 use crate::canvas::Canvas;
 use crate::matching::refuse_other_graph;
-use crate::planned::read_plan;
+use crate::planned::{Planned, read_plan};
 use bf_command_fault::{CommandFault, Status};
 use bf_command_line::{Color, ShowAsked};
 use bf_device::Write;
@@ -68,6 +70,33 @@ fn write_viewed<W: Write>(
     Ok(())
 }
 
+/// Writes the grid of a report beside its plan, as a view has it. Refuses a report of another graph.
+fn write_grid_beside<W: Write>(
+    alloc: Global,
+    view: &View,
+    planned: &Planned,
+    report: &Report,
+    out: &mut W,
+) -> Result<Status, CommandFault>
+    ensures answer { (files : Files) (asked : ShowAsked) (canvas : Canvas)
+        → IsReadForGrid files asked canvas view.now planned.now report.now
+        → IfOk result (λ status. Sends (λ text. IsGridAnswer canvas files asked text status)
+        (W.written out.old) (W.written out.new)) }
+    ensures fault { (files : Files) (asked : ShowAsked) (canvas : Canvas)
+        → IsReadForGrid files asked canvas view.now planned.now report.now
+        → IfErr result (IsGridFault files asked) }
+    ensures left { (files : Files) (asked : ShowAsked) (canvas : Canvas)
+        → IsReadForGrid files asked canvas view.now planned.now report.now
+        → IfErr result (Leaves (HasHalted (W.failures out.old) (W.failures out.new)
+        (W.interruptions out.old) (W.interruptions out.new))
+        (λ text. (status : Status) × IsGridAnswer canvas files asked text status)
+        (W.written out.old) (W.written out.new)) }
+{
+    refuse_other_graph(alloc, planned.plan.dag(), report)?;
+    write_viewed(alloc, view, &planned.plan, report, out)?;
+    Ok(Status::Success)
+}
+
 /// Does the command `show`: checks the moments, reads the files and checks the graph, reads the report, and writes
 /// the grid. The report may be of any range. Width and colours are the command line's, or else the canvas's.
 pub fn answer_show<S: Source, W: Write>(
@@ -91,7 +120,8 @@ pub fn answer_show<S: Source, W: Write>(
     let planned = read_plan(alloc, asked.graph, files)?;
     bounds.refuse_reversed()?;
     let report = read_report_file(alloc, asked.report, files)?;
-    refuse_other_graph(alloc, planned.plan.dag(), &report)?;
-    write_viewed(alloc, &view, &planned.plan, &report, out)?;
-    Ok(Status::Success)
+    let written = write_grid_beside(alloc, &view, &planned, &report, out);
+    drop(report);
+    drop(planned);
+    written
 }

@@ -42,49 +42,50 @@ returns-in_err-report g c =
     (reported_fault files c.args.asked c.in_ok-bounds.bounds c.in_ok-bounds.ensures.means _ (report_fault files c.args.asked.graph path c.in_ok-planned.ensures.readable _ is))
     (unwritten_leaves _ _ _ (IsReportFault path (files path)) (λ n is. is) _ is)
 
-pub returns-in_err-refuse_other_graph : goal.returns-in_err-refuse_other_graph
-returns-in_err-refuse_other_graph g c =
-    let files = g.S.Source.file c.args.files.now in
-    let path = string_bytes c.args.asked.report in
-    let report = c.in_ok-report.report in
-    let stays = c.in_ok-planned.ensures.stays path in
-    let read : IsReadOf (files path) report = record { readable = subst IsReadable stays c.in_ok-report.ensures.readable; says = λ held told. c.in_ok-report.ensures.says held (stays ∙ told) } in
-    let is = subst (λ (d : Dag). IsRefusedBy (is_of_graph d report) c.in_err-refuse_other_graph.field-0.0) c.dag.ensures.dag c.in_err-refuse_other_graph.ensures.err in
-    fails _ _ _ _ _ c.from_residual-in_err-refuse_other_graph.ensures.1
-    (reported_fault files c.args.asked c.in_ok-bounds.bounds c.in_ok-bounds.ensures.means _
-    (refusal_fault files c.args.asked.graph path c.in_ok-planned.planned report c.in_ok-planned.ensures.plan c.in_ok-planned.ensures.readable read _ is))
-    (unwritten_leaves _ _ _ (IsRefusedBy (is_of_graph c.in_ok-planned.planned.plan.dag report)) (λ n is. is) _ is)
-
-pub returns-in_err-write_viewed : goal.returns-in_err-write_viewed
-returns-in_err-write_viewed g c =
-    let files = g.S.Source.file c.args.files.now in
-    let path = string_bytes c.args.asked.report in
-    let planned = c.in_ok-planned.planned in
-    let report = c.in_ok-report.report in
-    let stays = c.in_ok-planned.ensures.stays path in
-    let read : IsReadOf (files path) report = record { readable = subst IsReadable stays c.in_ok-report.ensures.readable; says = λ held told. c.in_ok-report.ensures.says held (stays ∙ told) } in
-    let matches = ap (λ (d : Dag). is_of_graph d report) (sym c.dag.ensures.dag) ∙ c.in_ok-refuse_other_graph.ensures.ok in
-    fails _ _ _ _ _ c.from_residual-in_err-write_viewed.ensures.1
-    (reported_fault files c.args.asked c.in_ok-bounds.bounds c.in_ok-bounds.ensures.means _
-    (writing_fault files c.args.asked.graph path planned report c.in_ok-planned.ensures.plan c.in_ok-planned.ensures.readable read _ c.in_err-write_viewed.ensures.fault))
-    (leaves_due _ _ _ (λ text is. (
-      Status.Success,
-      grid_answer files c.args.asked c.in_ok-bounds.bounds c.in_ok-bounds.ensures.means c.args.canvas c.in_ok-refuse_reversed.ensures.ok planned report c.in_ok-planned.ensures.plan c.in_ok-planned.ensures.readable read matches
-          text (is ∙ ap (λ (v : View). grid_text v planned.plan.dag report) c.view_of-view.ensures),
-    )) _ _ _ c.in_err-write_viewed.ensures.left)
-
 pub returns-clause-answer : goal.returns-clause-answer
 returns-clause-answer g c =
     let files = g.S.Source.file c.args.files.now in
     let path = string_bytes c.args.asked.report in
-    let planned = c.in_ok-planned.planned in
-    let report = c.in_ok-report.report in
     let stays = c.in_ok-planned.ensures.stays path in
-    let read : IsReadOf (files path) report = record { readable = subst IsReadable stays c.in_ok-report.ensures.readable; says = λ held told. c.in_ok-report.ensures.says held (stays ∙ told) } in
-    let matches = ap (λ (d : Dag). is_of_graph d report) (sym c.dag.ensures.dag) ∙ c.in_ok-refuse_other_graph.ensures.ok in
-    let text : List ℕ = grid_text c.view_of-view.result planned.plan.dag report in (
-      text,
-      grid_answer files c.args.asked c.in_ok-bounds.bounds c.in_ok-bounds.ensures.means c.args.canvas c.in_ok-refuse_reversed.ensures.ok planned report c.in_ok-planned.ensures.plan c.in_ok-planned.ensures.readable read matches
-          text (ap (λ (v : View). grid_text v planned.plan.dag report) c.view_of-view.ensures),
-      c.in_ok-write_viewed.ensures.grid,
-    )
+    let read : IsReadOf (files path) c.in_ok-report.report = record { readable = subst IsReadable stays c.in_ok-report.ensures.readable; says = λ held told. c.in_ok-report.ensures.says held (stays ∙ told) } in
+    c.write_grid_beside-written.ensures.answer files c.args.asked c.args.canvas (record {
+      bounds = c.in_ok-bounds.bounds;
+      means = c.in_ok-bounds.ensures.means;
+      ordered = c.in_ok-refuse_reversed.ensures.ok;
+      view_is = c.view_of-view.ensures;
+      plan = c.in_ok-planned.ensures.plan;
+      readable = c.in_ok-planned.ensures.readable;
+      read = read;
+    })
+
+pub returns-clause-fault : goal.returns-clause-fault
+returns-clause-fault g c =
+    let files = g.S.Source.file c.args.files.now in
+    let path = string_bytes c.args.asked.report in
+    let stays = c.in_ok-planned.ensures.stays path in
+    let read : IsReadOf (files path) c.in_ok-report.report = record { readable = subst IsReadable stays c.in_ok-report.ensures.readable; says = λ held told. c.in_ok-report.ensures.says held (stays ∙ told) } in
+    c.write_grid_beside-written.ensures.fault files c.args.asked c.args.canvas (record {
+      bounds = c.in_ok-bounds.bounds;
+      means = c.in_ok-bounds.ensures.means;
+      ordered = c.in_ok-refuse_reversed.ensures.ok;
+      view_is = c.view_of-view.ensures;
+      plan = c.in_ok-planned.ensures.plan;
+      readable = c.in_ok-planned.ensures.readable;
+      read = read;
+    })
+
+pub returns-clause-left : goal.returns-clause-left
+returns-clause-left g c =
+    let files = g.S.Source.file c.args.files.now in
+    let path = string_bytes c.args.asked.report in
+    let stays = c.in_ok-planned.ensures.stays path in
+    let read : IsReadOf (files path) c.in_ok-report.report = record { readable = subst IsReadable stays c.in_ok-report.ensures.readable; says = λ held told. c.in_ok-report.ensures.says held (stays ∙ told) } in
+    c.write_grid_beside-written.ensures.left files c.args.asked c.args.canvas (record {
+      bounds = c.in_ok-bounds.bounds;
+      means = c.in_ok-bounds.ensures.means;
+      ordered = c.in_ok-refuse_reversed.ensures.ok;
+      view_is = c.view_of-view.ensures;
+      plan = c.in_ok-planned.ensures.plan;
+      readable = c.in_ok-planned.ensures.readable;
+      read = read;
+    })
