@@ -184,8 +184,7 @@ pub fn answer_page<S: Source, W: Write>(
     let words = Words::of(alloc, &asked)?;
     let planned = read_plan(alloc, asked.graph, files)?;
     let report = read_report_file(alloc, asked.report, files)?;
-    let written =
-        write_page_beside(alloc, &words, &planned, &report, asked.journal, files, out);
+    let written = write_page_beside(alloc, &words, &planned, &report, asked.journal, files, out);
     drop(report);
     drop(planned);
     written
