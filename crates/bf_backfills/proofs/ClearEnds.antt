@@ -1,5 +1,5 @@
 -- What the command `clear` comes to, by what was read of its files.
-use Rattle.std.proofs.Common.{◌≡◌, ℕ, ℤ, Bool, List, Option, Some, None, option_map, ◌⊎◌, string_bytes, refl, sym, ◌∙◌, subst, inl, inr}
+use Rattle.std.proofs.Common.{◌≡◌, ℕ, ℤ, Bool, List, Option, Some, None, option_map, string_bytes, refl, sym, subst, inl, inr}
 use Rattle.bf_plan.specs.declared.plan.Dag.{Dag}
 use Rattle.bf_interval.specs.declared.interval.Interval.{Interval}
 use Rattle.bf_table.specs.declared.table.TableEntry.{TableEntry}
@@ -25,15 +25,15 @@ use Rattle.bf_process.specs.Words.{LaunchingOf}
 use Rattle.bf_commands.specs.Programs.{Hearing, Losing, launched_by, with_clocks}
 use Rattle.bf_commands.proofs.Faults.{unwritten_leaves}
 use Rattle.bf_disk.specs.Files.{AreReadable, Files, IsHeld, IsReadable}
-use Rattle.bf_input.specs.Inputs.{IsReportFault, OfFilesAndNamedTable}
+use Rattle.bf_input.specs.Inputs.{OfFilesAndNamedTable}
 use Rattle.bf_input.specs.inner.Inputs.{IsReadOf}
 use Rattle.bf_backfills.specs.Commands.{HasNoMoment, IsClearAnswer, IsClearPlanAnswer, IsClearReportBy, IsLaunchable, Machine, MeansCleared, MeansRange, OfClearFiles, OfJournal, clear_input, first_paths, launcher_used_of, launching_asked_of, plan_input}
 use Rattle.bf_backfills.specs.CommandFaults.{CanClear, GoesWrongOver, IsClearFault, IsClearFaultBy, IsClearPlanFault, IsFaultOfClear, IsFaultOfClearing, IsRecordedClearFault}
 use Rattle.bf_backfills.specs.inner.CommandFaults.{IsFaultOfLauncher}
 use Rattle.bf_backfills.specs.inner.Named.{IsUnmeant}
-use Rattle.bf_backfills.specs.inner.Files.{IsFaultAfterFile, IsOfBytes, IsReportAfterFile}
-use Rattle.bf_backfills.specs.inner.Journals.{GoesWrongAfter, IsFaultAfterFileBy, IsFaultSinceFile, IsJournaledAfterFile, IsReportAfterFileBy}
-use Rattle.bf_backfills.proofs.ClearInputs.{prepared_held, ready, unreported, uncleared}
+use Rattle.bf_backfills.specs.inner.Files.{IsOfBytes}
+use Rattle.bf_backfills.specs.inner.Journals.{GoesWrongAfter, IsFaultAfterBy, IsReportAfterBy}
+use Rattle.bf_backfills.proofs.ClearInputs.{prepared_held, ready, uncleared}
 
 -- ---- the launcher
 
@@ -99,7 +99,13 @@ module _ (may_lose : Losing) (files : Files) (machine : Machine) (asked : ClearA
     abbrev as_prepared : OfFilesAndNamedTable files asked.graph (option_map string_bytes asked.table) (λ graph held other. IsPrepared graph held other range dag found clocks answers)
     as_prepared = prepared_held files (clear_input asked) range dag found clocks answers readable what means_what said
 
-    module _ (report_readable : IsReadable (files (string_bytes asked.report))) (was : Reported) (says : (held : List ℕ) → IsHeld (files (string_bytes asked.report)) held → IsReadAs held was) where
+    module _ (was : Reported) (is_read : IsReadOf (files (string_bytes asked.report)) was) where
+      report_readable : IsReadable (files (string_bytes asked.report))
+      report_readable = is_read.readable
+
+      says : (held : List ℕ) → IsHeld (files (string_bytes asked.report)) held → IsReadAs held was
+      says = is_read.says
+
       clear_refused : (fault : CommandFault) → IsUncleared dag found was what fault → IsClearFault may_lose files machine asked fault
       clear_refused fault is = of_clearing fault (uncleared files (clear_input asked) range dag found clocks answers readable what means_what said report_readable was says fault is)
 
@@ -222,57 +228,27 @@ module _ (may_lose : Losing) (files : Files) (machine : Machine) (asked : ClearA
               })));
         }
 
-    -- the report is read in a file that nothing has changed
-    module _ (file : Option (Option (List ℕ))) (stays : file ≡ files (string_bytes asked.report)) where
-      clear_unreported : (fault : CommandFault) → IsReportFault (string_bytes asked.report) file fault → IsClearFault may_lose files machine asked fault
-      clear_unreported fault is = of_clearing fault (unreported files (clear_input asked) range dag found clocks answers readable what means_what said fault
-          (subst (λ (f : Option (Option (List ℕ))). IsReportFault (string_bytes asked.report) f fault) stays is))
+      -- ---- whether one is or not
 
-      clear_going_on : asked.journal ≡ None → (fault : CommandFault) → IsFaultAfterFile (is_single_threaded_in asked.progress) (with_clocks (launching_asked_of asked.launcher asked.logs) clocks) may_lose answers dag found (string_bytes asked.report) file what fault
-          → IsClearFault may_lose files machine asked fault
-      clear_going_on none fault (inl report) = clear_unreported fault report
-      clear_going_on none fault (inr (was, is, again)) = clear_again (subst IsReadable stays is.readable) was (λ held told. is.says held (stays ∙ told)) none fault again
-
-      clear_gone_on : asked.journal ≡ None → (may_hear : Hearing) (text : List ℕ) (success : Bool) → IsReportAfterFile (launched_by (launching_asked_of asked.launcher asked.logs) may_hear clocks) answers dag found file what text success
-          → IsClearAnswer may_hear files machine asked text (of_runs success)
-      clear_gone_on none may_hear text success is =
-          clear_answer (subst IsReadable stays is.read.readable) is.was (λ held told. is.read.says held (stays ∙ told)) none may_hear text success is.reported
-
-      module _ (journal : JournalAsked) (named : asked.journal ≡ Some journal) where
-        since_read : (was : Reported) → IsReadOf file was → (fault : CommandFault) → IsUncleared dag found was what fault ⊎ GoesWrongAfter (option_map string_bytes asked.logs) machine.journals dag found was what journal fault → IsClearFault may_lose files machine asked fault
-        since_read was is fault (inl refused) = clear_refused (subst IsReadable stays is.readable) was (λ held told. is.says held (stays ∙ told)) fault refused
-        since_read was is fault (inr wrong) = clear_since (subst IsReadable stays is.readable) was (λ held told. is.says held (stays ∙ told)) journal named fault wrong
-
-        recording_going_on : (fault : CommandFault) → IsFaultSinceFile (option_map string_bytes asked.logs) machine.journals dag found (string_bytes asked.report) file what journal fault → IsClearFault may_lose files machine asked fault
-        recording_going_on fault (inl report) = clear_unreported fault report
-        recording_going_on fault (inr (was, is, since)) = since_read was is fault since
-
-        recording_gone_on : (may_hear : Hearing) (text : List ℕ) (success : Bool) → IsJournaledAfterFile (launched_by (launching_asked_of asked.launcher asked.logs) may_hear clocks) machine.journals answers dag found file what journal text success
-            → IsClearAnswer may_hear files machine asked text (of_runs success)
-        recording_gone_on may_hear text success is =
-            journaled_answer (subst IsReadable stays is.read.readable) is.was (λ held told. is.read.says held (stays ∙ told)) journal named may_hear text success is.reported
-
-      -- whether a journal is named or not
       pub clear_faults : (launching : LaunchingOf) → launching ≡ launching_asked_of asked.launcher asked.logs → (fault : CommandFault)
-          → IsFaultAfterFileBy (is_single_threaded_in asked.progress) (with_clocks launching clocks) may_lose machine.journals asked.journal answers dag found (string_bytes asked.report) file what fault
-          → IsClearFault may_lose files machine asked fault
+          → IsFaultAfterBy (is_single_threaded_in asked.progress) (with_clocks launching clocks) may_lose machine.journals asked.journal answers dag found was what fault → IsClearFault may_lose files machine asked fault
       clear_faults launching same fault is = go asked.journal refl
-          (subst (λ (l : LaunchingOf). IsFaultAfterFileBy (is_single_threaded_in asked.progress) (with_clocks l clocks) may_lose machine.journals asked.journal answers dag found (string_bytes asked.report) file what fault) same is)
+          (subst (λ (l : LaunchingOf). IsFaultAfterBy (is_single_threaded_in asked.progress) (with_clocks l clocks) may_lose machine.journals asked.journal answers dag found was what fault) same is)
         where
-          go : (o : Option JournalAsked) → asked.journal ≡ o → IsFaultAfterFileBy (is_single_threaded_in asked.progress) (with_clocks (launching_asked_of asked.launcher asked.logs) clocks) may_lose machine.journals o answers dag found (string_bytes asked.report) file what fault
+          go : (o : Option JournalAsked) → asked.journal ≡ o → IsFaultAfterBy (is_single_threaded_in asked.progress) (with_clocks (launching_asked_of asked.launcher asked.logs) clocks) may_lose machine.journals o answers dag found was what fault
               → IsClearFault may_lose files machine asked fault
-          go None none is = clear_going_on none fault is
-          go (Some journal) named is = recording_going_on journal named fault is
+          go None none is = clear_again none fault is
+          go (Some journal) named (inl refused) = clear_refused fault refused
+          go (Some journal) named (inr wrong) = clear_since journal named fault wrong
 
       pub clear_answers : (launching : LaunchingOf) → launching ≡ launching_asked_of asked.launcher asked.logs → (may_hear : Hearing) (text : List ℕ) (success : Bool)
-          → IsReportAfterFileBy (launched_by launching may_hear clocks) machine.journals asked.journal answers dag found file what text success
-          → IsClearAnswer may_hear files machine asked text (of_runs success)
+          → IsReportAfterBy (launched_by launching may_hear clocks) machine.journals asked.journal answers dag found was what text success → IsClearAnswer may_hear files machine asked text (of_runs success)
       clear_answers launching same may_hear text success is = go asked.journal refl
-          (subst (λ (l : LaunchingOf). IsReportAfterFileBy (launched_by l may_hear clocks) machine.journals asked.journal answers dag found file what text success) same is)
+          (subst (λ (l : LaunchingOf). IsReportAfterBy (launched_by l may_hear clocks) machine.journals asked.journal answers dag found was what text success) same is)
         where
-          go : (o : Option JournalAsked) → asked.journal ≡ o → IsReportAfterFileBy (launched_by (launching_asked_of asked.launcher asked.logs) may_hear clocks) machine.journals o answers dag found file what text success → IsClearAnswer may_hear files machine asked text (of_runs success)
-          go None none is = clear_gone_on none may_hear text success is
-          go (Some journal) named is = recording_gone_on journal named may_hear text success is
+          go : (o : Option JournalAsked) → asked.journal ≡ o → IsReportAfterBy (launched_by (launching_asked_of asked.launcher asked.logs) may_hear clocks) machine.journals o answers dag found was what text success → IsClearAnswer may_hear files machine asked text (of_runs success)
+          go None none is = clear_answer none may_hear text success is
+          go (Some journal) named is = journaled_answer journal named may_hear text success is
 
 -- ---- where it is only told
 
@@ -283,41 +259,30 @@ module _ (files : Files) (asked : ClearPlanAsked) (range : RunRange) (means : Me
 
   module _ (dag : Dag) (found : List Interval) (clocks : List ℤ) (answers : Option (List TableEntry)) (readable : AreReadable files (first_paths (plan_input asked))) (what : ToClear) (means_what : MeansCleared files asked.cleared what)
       (said : IsOfBytes files asked.graph None (λ graph zone table. IsPrepared graph zone table range dag found clocks answers))
-      (file : Option (Option (List ℕ))) (stays : file ≡ files (string_bytes asked.report)) where
-    pub plan_unreported : (fault : CommandFault) → IsReportFault (string_bytes asked.report) file fault → IsClearPlanFault files asked fault
-    plan_unreported fault is = of_planning fault (unreported files (plan_input asked) range dag found clocks answers readable what means_what said fault
-        (subst (λ (f : Option (Option (List ℕ))). IsReportFault (string_bytes asked.report) f fault) stays is))
+      (was : Reported) (is_read : IsReadOf (files (string_bytes asked.report)) was) where
+    pub plan_fault : (fault : CommandFault) → ClearPlanFault dag found was what fault → IsClearPlanFault files asked fault
+    plan_fault (CannotWrite n) is = of_planning (CannotWrite n) (readable, is_read.readable)
+    plan_fault (Clear fault) is = of_planning (Clear fault) (uncleared files (plan_input asked) range dag found clocks answers readable what means_what said is_read.readable was is_read.says (Clear fault) is)
+    plan_fault (Seeds fault) is = of_planning (Seeds fault) (uncleared files (plan_input asked) range dag found clocks answers readable what means_what said is_read.readable was is_read.says (Seeds fault) is)
+    plan_fault OutOfMemory is = of_planning OutOfMemory tt
+    plan_fault fault is = absurd is
 
-    module _ (was : Reported) (is_read : IsReadOf file was) where
-      report_readable : IsReadable (files (string_bytes asked.report))
-      report_readable = subst IsReadable stays is_read.readable
-
-      report_says : (held : List ℕ) → IsHeld (files (string_bytes asked.report)) held → IsReadAs held was
-      report_says held told = is_read.says held (stays ∙ told)
-
-      pub plan_fault : (fault : CommandFault) → ClearPlanFault dag found was what fault → IsClearPlanFault files asked fault
-      plan_fault (CannotWrite n) is = of_planning (CannotWrite n) (readable, report_readable)
-      plan_fault (Clear fault) is = of_planning (Clear fault) (uncleared files (plan_input asked) range dag found clocks answers readable what means_what said report_readable was report_says (Clear fault) is)
-      plan_fault (Seeds fault) is = of_planning (Seeds fault) (uncleared files (plan_input asked) range dag found clocks answers readable what means_what said report_readable was report_says (Seeds fault) is)
-      plan_fault OutOfMemory is = of_planning OutOfMemory tt
-      plan_fault fault is = absurd is
-
-      pub plan_answer : (text : List ℕ) → IsClearPlan dag found was what text → IsClearPlanAnswer files asked text Status.Success
-      plan_answer text is = record {
-        success = refl;
-        range = range;
-        means = means;
-        what = what;
-        means_what = means_what;
-        readable = readable;
-        report_readable = report_readable;
-        text_is = λ graph held other are holds reported told. (let p = prepared_held files (plan_input asked) range dag found clocks answers readable what means_what said graph held other are holds in record {
-          draft = p.draft;
-          found = found;
-          was = was;
-          graph_is = p.graph_is;
-          listing = p.listing;
-          report_says = report_says reported told;
-          plan = subst (λ (d : Dag). IsClearPlan d found was what text) p.dag_is is;
-        });
-      }
+    pub plan_answer : (text : List ℕ) → IsClearPlan dag found was what text → IsClearPlanAnswer files asked text Status.Success
+    plan_answer text is = record {
+      success = refl;
+      range = range;
+      means = means;
+      what = what;
+      means_what = means_what;
+      readable = readable;
+      report_readable = is_read.readable;
+      text_is = λ graph held other are holds reported told. (let p = prepared_held files (plan_input asked) range dag found clocks answers readable what means_what said graph held other are holds in record {
+        draft = p.draft;
+        found = found;
+        was = was;
+        graph_is = p.graph_is;
+        listing = p.listing;
+        report_says = is_read.says reported told;
+        plan = subst (λ (d : Dag). IsClearPlan d found was what text) p.dag_is is;
+      });
+    }

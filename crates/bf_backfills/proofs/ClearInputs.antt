@@ -28,19 +28,16 @@ use Rattle.bf_backfills.specs.CommandFaults.{IsFaultOfClearing, OfReadClearFiles
 use Rattle.bf_backfills.specs.declared.named.UnreadToClear.{UnreadToClear}
 use Rattle.bf_backfills.specs.declared.named.UnreadToClear.TheVariants as naming
 use Rattle.bf_backfills.specs.inner.Named.{IsReadFor, MeansNamed, path_of}
-use Rattle.bf_backfills.specs.inner.Files.{IsOfBytes, IsPreparingFault}
+use Rattle.bf_backfills.specs.inner.Files.{IsFaultOfReading, IsOfBytes, IsPreparingFault}
 use Rattle.bf_backfills.proofs.Alike.{clocks_alike, fault_in, graph_of, listing_of}
 use Rattle.bf_backfills.proofs.Exits.{reading_cases}
 
--- nothing went out then
-pub report_leaves : (Halted : Type 0) (IsDue : List ℕ → Type 0) (before : Option (List ℕ)) (path : List ℕ) (file : Option (Option (List ℕ))) (fault : CommandFault) → IsReportFault path file fault → Leaves Halted IsDue before before fault
-report_leaves Halted IsDue before path file fault is = unwritten_leaves Halted IsDue before (IsReportFault path file) (λ n written. written) fault is
-
--- nothing went out before the report is read
-pub preparing_leaves : (Halted : Type 0) (IsDue : List ℕ → Type 0) (before : Option (List ℕ)) (files : Files) (asked : GraphAsked) (path seeds : Option (List ℕ)) (range : RunRange) (fault : CommandFault)
-    → IsPreparingFault files asked path seeds range fault → Leaves Halted IsDue before before fault
-preparing_leaves Halted IsDue before files asked path seeds range fault is =
-    unwritten_leaves Halted IsDue before (IsPreparingFault files asked path seeds range) (λ n written. elim written [ inl reading ↦ reading | inr said ↦ said.1.holds ]) fault is
+-- nothing went out before what is to be cleared is looked for
+pub reading_leaves : (Halted : Type 0) (IsDue : List ℕ → Type 0) (before : Option (List ℕ)) (files : Files) (asked : GraphAsked) (path : Option (List ℕ)) (named : UnreadToClear) (range : RunRange) (report : List ℕ) (fault : CommandFault)
+    → IsFaultOfReading files asked path named range report fault → Leaves Halted IsDue before before fault
+reading_leaves Halted IsDue before files asked path named range report fault is =
+    unwritten_leaves Halted IsDue before (IsFaultOfReading files asked path named range report)
+    (λ n written. elim written [ inl preparing ↦ elim preparing [ inl reading ↦ reading | inr said ↦ said.1.holds ] | inr reported ↦ reported.3 ]) fault is
 
 -- ---- by what the files are told to hold
 
@@ -64,6 +61,9 @@ module _ (read held : List ℕ) (one two : Option (List ℕ)) (alike : AreAlike 
     listing = listing_of read held one two alike range _ is.listing;
     clocks_are = clocks_alike read held one two alike found clocks is.clocks_are;
   }
+
+  ready_alike : IsReady read one table range → IsReady held two other range
+  ready_alike is = record { dag = is.dag; found = is.found; clocks = is.clocks; answers = is.answers; prepared = prepared_alike is.dag is.found is.clocks is.answers is.prepared }
 
 -- ---- what is named to be cleared
 
@@ -155,9 +155,22 @@ module _ (files : Files) (input : ClearInput) (range : RunRange) where
   before_report fault readable said = absurd said.holds
 
   -- a fault before the report is read is the command's
-  pub preparing : (fault : CommandFault) → IsPreparingFault files input.graph input.table (seeds_named input.cleared) range fault → IsFaultOfClearing files input range fault
+  preparing : (fault : CommandFault) → IsPreparingFault files input.graph input.table (seeds_named input.cleared) range fault → IsFaultOfClearing files input range fault
   preparing fault (inl reading) = reading_cases files (first_paths input) (IsFaultOfClearing files input range) tt (λ path unread. inl unread) fault reading
   preparing fault (inr (readable, said)) = before_report fault readable said
+
+  ready_held : IsOfBytes files input.graph input.table (λ graph zone table. IsReady graph zone table range) → OfFilesAndNamedTable files input.graph input.table (λ graph held other. IsReady graph held other range)
+  ready_held said graph held other are holds =
+      let same = said.alike graph held other are holds in
+      ready_alike said.graph graph said.zone held same.0 said.table other same.1 range said.holds
+
+  unreported : AreReadable files (first_paths input) → (what : ToClear) → MeansCleared files input.cleared what → IsOfBytes files input.graph input.table (λ graph zone table. IsReady graph zone table range)
+      → (fault : CommandFault) → IsReportFault input.report (files input.report) fault → IsFaultOfClearing files input range fault
+  unreported readable what means_what said (Report report.Io) is = absurd is
+  unreported readable what means_what said (Report fault) is = (readable, is.0, what, means_what, λ graph held other are holds reported told. (ready_held said graph held other are holds, is.1 reported told))
+  unreported readable what means_what said OutOfMemory is = tt
+  unreported readable what means_what said (CannotRead path) is = inr (readable, is.0, subst (λ (p : List ℕ). IsUntold (files p)) (sym is.0) is.1, ready_held said)
+  unreported readable what means_what said fault is = absurd is
 
   module _ (dag : Dag) (found : List Interval) (clocks : List ℤ) (answers : Option (List TableEntry)) (readable : AreReadable files (first_paths input)) (what : ToClear) (means_what : MeansCleared files input.cleared what)
       (said : IsOfBytes files input.graph input.table (λ graph zone table. IsPrepared graph zone table range dag found clocks answers)) where
@@ -168,13 +181,6 @@ module _ (files : Files) (input : ClearInput) (range : RunRange) where
 
     abbrev pub ready : OfFilesAndNamedTable files input.graph input.table (λ graph held other. IsReady graph held other range)
     ready graph held other are holds = record { dag = dag; found = found; clocks = clocks; answers = answers; prepared = prepared_held graph held other are holds }
-
-    pub unreported : (fault : CommandFault) → IsReportFault input.report (files input.report) fault → IsFaultOfClearing files input range fault
-    unreported (Report report.Io) is = absurd is
-    unreported (Report fault) is = (readable, is.0, what, means_what, λ graph held other are holds reported told. (ready graph held other are holds, is.1 reported told))
-    unreported OutOfMemory is = tt
-    unreported (CannotRead path) is = inr (readable, is.0, subst (λ (p : List ℕ). IsUntold (files p)) (sym is.0) is.1, ready)
-    unreported fault is = absurd is
 
     module _ (report_readable : IsReadable (files input.report)) (was : Reported) (says : (held : List ℕ) → IsHeld (files input.report) held → IsReadAs held was) where
       unclearable : (fault : CommandFault) → IsUncleared dag found was what fault
@@ -199,5 +205,7 @@ module _ (files : Files) (input : ClearInput) (range : RunRange) where
     pub named_readable : AreReadable files (clear_paths input.graph input.table (path_of named)) → AreReadable files (first_paths input)
     named_readable readable = subst (λ (o : Option (List ℕ)). AreReadable files (clear_paths input.graph input.table o)) (path_named input.cleared named means_named) readable
 
-    pub named_preparing : (fault : CommandFault) → IsPreparingFault files input.graph input.table (path_of named) range fault → IsFaultOfClearing files input range fault
-    named_preparing fault is = preparing fault (subst (λ (o : Option (List ℕ)). IsPreparingFault files input.graph input.table o range fault) (path_named input.cleared named means_named) is)
+    -- a fault of the files is the command's
+    pub named_reading : (fault : CommandFault) → IsFaultOfReading files input.graph input.table named range input.report fault → IsFaultOfClearing files input range fault
+    named_reading fault (inl is) = preparing fault (subst (λ (o : Option (List ℕ)). IsPreparingFault files input.graph input.table o range fault) (path_named input.cleared named means_named) is)
+    named_reading fault (inr (readable, said, (what, read), is)) = unreported (named_readable readable) what (read_means files input.cleared named what means_named read) said fault is

@@ -1,5 +1,5 @@
 -- Backfills that record their tries in a journal that is told of.
-use Rattle.std.proofs.Common.{◌≡◌, ℕ, ℤ, Bool, List, [], Option, Result, Ok, Err, IfErr, IfOk, string_bytes, refl, sym, subst, inl, inr}
+use Rattle.std.proofs.Common.{◌≡◌, ℕ, ℤ, Bool, List, [], Option, Some, Result, Ok, Err, IfErr, IfOk, string_bytes, refl, sym, subst, inl, inr}
 use Rattle.std.proofs.lemmas.Result.{IfErr-weaker}
 use Rattle.bf_value.specs.declared.name.JobName.{JobName}
 use Rattle.bf_plan.specs.Checked.{Checked}
@@ -28,8 +28,7 @@ use Rattle.bf_planning.specs.Clocks.{AreClocksOf}
 use Rattle.bf_commands.specs.Programs.{Hearing, HearingTries, launched_by}
 use Rattle.bf_disk.specs.Files.{Files}
 use Rattle.bf_backfills.specs.Commands.{OfJournal}
-use Rattle.bf_input.specs.inner.Inputs.{IsReadOf}
-use Rattle.bf_backfills.specs.inner.Journals.{IsFaultOfRecorded, IsFaultOver, IsJournaledAfterFile, IsReportOver, journaled_fault}
+use Rattle.bf_backfills.specs.inner.Journals.{IsFaultOfRecorded, IsFaultOver, IsReportAfterBy, IsReportOver, journaled_fault}
 
 module _ (journals : Files) (asked : JournalAsked) (held : List ℕ) (is_held : OfJournal journals asked (λ told. held ≡ told)) (before : Ledger) (cleared : Heading) (dag : Dag) (found : List Interval) where
   module _ (logs : Option (List ℕ)) where
@@ -127,11 +126,8 @@ module _ {graph : List ℕ} {file : Option (List ℕ)} {plan : Checked} (range :
 -- ---- a report where some tasks are cleared
 
 -- the report over the journal is that of `clear`
-pub after_file : (journals : Files) (asked : JournalAsked) (may_hear : HearingTries) (answers : Option (List TableEntry)) (dag : Dag) (found : List Interval) (file : Option (Option (List ℕ))) (what : ToClear)
-    (was : Report) → IsReadOf file was → (kept : Ledger) (cleared : Heading) → IsClearedBy dag found was what kept cleared → (text : List ℕ) (success : Bool)
-    → IsReportOver journals asked kept cleared (MayAnswerBy may_hear answers dag found) dag found text success → IsJournaledAfterFile may_hear journals answers dag found file what asked text success
-after_file journals asked may_hear answers dag found file what was read kept cleared cleared_is text success over = record {
-  was = was;
-  read = read;
-  reported = λ held told. record { kept = kept; cleared = cleared; cleared_is = cleared_is; reported = over held told };
-}
+pub after_journal : (journals : Files) (asked : JournalAsked) (may_hear : HearingTries) (answers : Option (List TableEntry)) (dag : Dag) (found : List Interval) (was : Report) (what : ToClear)
+    (kept : Ledger) (cleared : Heading) → IsClearedBy dag found was what kept cleared → (text : List ℕ) (success : Bool)
+    → IsReportOver journals asked kept cleared (MayAnswerBy may_hear answers dag found) dag found text success → IsReportAfterBy may_hear journals (Some asked) answers dag found was what text success
+after_journal journals asked may_hear answers dag found was what kept cleared cleared_is text success over held told =
+    record { kept = kept; cleared = cleared; cleared_is = cleared_is; reported = over held told }

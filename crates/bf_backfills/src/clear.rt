@@ -1,6 +1,6 @@
 //! The command `clear`: a backfill that goes on from its report, where some tasks in runs are cleared with all that follows from them. Where
 //! nothing is, it is `run --keep` and `dry --keep`.
-ghost use Rattle.std.specs.Prelude.{◌≡◌, ℕ, Bool, List, IfOk, IfErr, OnOk, option_map, string_bytes};
+ghost use Rattle.std.specs.Prelude.{◌≡◌, ℕ, Bool, List, Some, IfOk, IfErr, OnOk, option_map, string_bytes};
 ghost use Rattle.bf_device.specs.Device.{HasHalted};
 ghost use Rattle.bf_table.specs.Tables.{table_in};
 ghost use Rattle.bf_commands.specs.Cleared.{IsPrepared};
@@ -14,8 +14,9 @@ ghost use Rattle.bf_disk.specs.Files.{AreReadable};
 ghost use Rattle.bf_input.specs.Inputs.{OfFilesAndNamedTable, clear_paths, AreAlike, IsReadingFault, bytes_of};
 ghost use Rattle.bf_backfills.specs.Commands.{IsClearAnswer, launcher_used_of, machine_of};
 ghost use Rattle.bf_backfills.specs.CommandFaults.{IsClearFault};
-ghost use Rattle.bf_backfills.specs.inner.Files.{IsFaultAfterFile, IsOfBytes, IsPreparingFault, IsReportAfterFile};
-ghost use Rattle.bf_backfills.specs.inner.Journals.{IsFaultAfterFileBy, IsFaultSinceFile, IsJournaledAfterFile, IsReportAfterFileBy};
+ghost use Rattle.bf_input.specs.inner.Inputs.{IsReadOf};
+ghost use Rattle.bf_backfills.specs.inner.Files.{IsFaultOfReading, IsOfBytes, IsPreparingFault};
+ghost use Rattle.bf_backfills.specs.inner.Journals.{IsFaultAfterBy, IsFaultSince, IsReportAfterBy};
 ghost use Rattle.bf_backfills.specs.inner.Named.{IsReadFor, path_of};
 
 use crate::journaled::record_clearing;
@@ -32,8 +33,10 @@ use bf_commands::{
 use bf_device::Write;
 use bf_disk::{Journals, Launchers, Source};
 use bf_input::{GraphFiles, read_graph_files, read_named_table, read_report_file};
-use bf_planning::RunRange;
+use bf_planning::{DatedPlan, RunRange};
 use bf_process::Starter;
+use bf_report::Report;
+use bf_table::Table;
 use std::alloc::Global;
 use std::sync::Wait;
 use std::thread::Threads;
@@ -95,14 +98,14 @@ fn read_clear_files<S: Source>(
 
 /// What the files of `clear` hold but for the report, and what is to be cleared.
 #[derive(Drop)]
-pub(crate) struct PreparedToClear {
-    pub(crate) prepared: Prepared,
-    pub(crate) what: ToClear,
+struct PreparedToClear {
+    prepared: Prepared,
+    what: ToClear,
 }
 
 /// Reads the graph, zone, table and seeds files that are named, and then checks graph, table and range. The report
 /// isn't read, and what is to be cleared isn't checked.
-pub(crate) fn read_and_prepare<S: Source>(
+fn read_and_prepare<S: Source>(
     alloc: Global,
     graph: GraphAsked,
     table: Option<String>,
@@ -136,48 +139,57 @@ pub(crate) fn read_and_prepare<S: Source>(
     })
 }
 
-/// Reads the report at the path `report`, goes on from it with `what` cleared, and writes the new report; true where
-/// every run is a success. No journal is kept.
-fn resume_unrecorded<RT: Starter + Screen + Threads + Wait + Clock + Sync, S: Source, W: Write>(
-    crew: &Crew<'_, RT>,
-    prepared: Prepared,
-    report: String,
-    what: ToClear,
-    files: &mut S,
-    out: &mut W,
-) -> Result<bool, CommandFault>
-    ensures ok { IfOk result (λ success. Sends
-        (λ text. IsReportAfterFile (launched_in prepared.dated (launching_of crew.now.launching)
-        (RT.may_hear crew.now.rt.now))
-        prepared.answers prepared.dated.plan.dag prepared.dated.runs
-        (S.file files.old (string_bytes report)) what text success)
-        (W.written out.old) (W.written out.new)) }
-    ensures fault { IfErr result (IsFaultAfterFile (is_single_threaded_in crew.now.progress)
-        (with_clocks (launching_of crew.now.launching) (clocks_in prepared.dated))
-        (RT.may_lose crew.now.rt.now)
-        prepared.answers prepared.dated.plan.dag prepared.dated.runs (string_bytes report)
-        (S.file files.old (string_bytes report)) what) }
-    ensures left { IfErr result (Leaves (HasHalted (W.failures out.old) (W.failures out.new)
-        (W.interruptions out.old) (W.interruptions out.new))
-        (λ text. (success : Bool) × IsReportAfterFile
-        (launched_in prepared.dated (launching_of crew.now.launching) (RT.may_hear crew.now.rt.now))
-        prepared.answers prepared.dated.plan.dag prepared.dated.runs
-        (S.file files.old (string_bytes report)) what text success)
-        (W.written out.old) (W.written out.new)) }
-{
-    let report = read_report_file(crew.alloc, report, files)?;
-    write_resumed_report(crew, prepared, report, what, out)
+/// What the files of `clear` hold, the report among them, and what is to be cleared in it.
+#[derive(Drop)]
+pub(crate) struct ReadyToClear {
+    pub(crate) prepared: Prepared,
+    pub(crate) what: ToClear,
+    pub(crate) report: Report,
 }
 
-/// Reads the report at the path `report`, and opens the journal once `what` is known to be in it. Goes on with `what`
-/// cleared, records each other try, and writes the new report; true where every run is a success.
-fn resume_recorded<RT, J: Journals, S: Source, W: Write>(
-    crew: &Crew<'_, RT>,
-    prepared: Prepared,
+/// Reads the graph, zone, table and seeds files that are named, checks graph, table and range, and then reads the
+/// report at the path `report`. What is to be cleared in it isn't checked.
+pub(crate) fn read_with_report<S: Source>(
+    alloc: Global,
+    graph: GraphAsked,
+    table: Option<String>,
+    named: UnreadToClear,
+    range: RunRange,
     report: String,
+    files: &mut S,
+) -> Result<ReadyToClear, CommandFault>
+    ensures said { IfOk result (λ r. IsOfBytes (S.file files.old) graph
+        (option_map string_bytes table) (λ bytes zone entries.
+        IsPrepared bytes zone entries range r.prepared.dated.plan.dag r.prepared.dated.runs
+        (clocks_in r.prepared.dated) r.prepared.answers)) }
+    ensures what { IfOk result (λ r. IsReadFor (S.file files.old) named r.what) }
+    ensures report { IfOk result (λ r. IsReadOf (S.file files.old (string_bytes report))
+        r.report) }
+    ensures readable { OnOk result
+        (AreReadable (S.file files.old)
+        (clear_paths graph (option_map string_bytes table) (path_of named))) }
+    ensures fault { IfErr result (IsFaultOfReading (S.file files.old) graph
+        (option_map string_bytes table) named range (string_bytes report)) }
+{
+    let ready = read_and_prepare(alloc, graph, table, named, range, files)?;
+    let report = read_report_file(alloc, report, files)?;
+    Ok(ReadyToClear {
+        prepared: ready.prepared,
+        what: ready.what,
+        report,
+    })
+}
+
+/// Goes on from a report with `what` cleared, opens the journal once that is known to be in it, records each other
+/// try, and writes the new report; true where every run is a success. A table answers these tries, or programs do
+/// where `answers` is None.
+fn resume_recorded<RT, J: Journals, W: Write>(
+    crew: &Crew<'_, RT>,
+    dated: &DatedPlan,
+    answers: Option<Table>,
+    report: Report,
     what: ToClear,
     journal: JournalAsked,
-    files: &mut S,
     journals: &J,
     out: &mut W,
 ) -> Result<bool, CommandFault>
@@ -185,38 +197,29 @@ where
     RT: Starter + Screen + Threads + Wait + Clock + Sync,
     J::Device: Send,
     ensures ok { IfOk result (λ success. Sends
-        (λ text. IsJournaledAfterFile (launched_in prepared.dated (launching_of crew.now.launching)
+        (λ text. IsReportAfterBy (launched_in dated.now (launching_of crew.now.launching)
         (RT.may_hear crew.now.rt.now))
-        (J.journal journals.now) prepared.answers prepared.dated.plan.dag prepared.dated.runs
-        (S.file files.old (string_bytes report)) what journal text success) (W.written out.old)
-        (W.written out.new)) }
-    ensures fault { IfErr result (IsFaultSinceFile (launching_of crew.now.launching).logs
-        (J.journal journals.now)
-        prepared.dated.plan.dag prepared.dated.runs (string_bytes report)
-        (S.file files.old (string_bytes report)) what journal) }
+        (J.journal journals.now) (Some journal) answers dated.now.plan.dag dated.now.runs
+        report what text success) (W.written out.old) (W.written out.new)) }
+    ensures fault { IfErr result (IsFaultSince (launching_of crew.now.launching).logs
+        (J.journal journals.now) dated.now.plan.dag dated.now.runs report what journal) }
     ensures left { IfErr result (Leaves (HasHalted (W.failures out.old) (W.failures out.new)
         (W.interruptions out.old) (W.interruptions out.new))
-        (λ text. (success : Bool) × IsJournaledAfterFile
-        (launched_in prepared.dated (launching_of crew.now.launching) (RT.may_hear crew.now.rt.now))
-        (J.journal journals.now) prepared.answers prepared.dated.plan.dag prepared.dated.runs
-        (S.file files.old (string_bytes report)) what journal text success) (W.written out.old)
-        (W.written out.new)) }
+        (λ text. (success : Bool) × IsReportAfterBy
+        (launched_in dated.now (launching_of crew.now.launching) (RT.may_hear crew.now.rt.now))
+        (J.journal journals.now) (Some journal) answers dated.now.plan.dag dated.now.runs
+        report what text success) (W.written out.old) (W.written out.new)) }
 {
-    let report = read_report_file(crew.alloc, report, files)?;
-    let Prepared { dated, answers } = prepared;
-    let clearing = clear_in_report(crew.alloc, &dated, report, what)?;
+    let clearing = clear_in_report(crew.alloc, dated, report, what)?;
     record_clearing(crew, &clearing, answers, journal, journals, out)
 }
 
-/// Reads the report at the path `report`, goes on from it with `what` cleared, and from a journal where one is named,
-/// and writes the new report; true where every run is a success.
-fn resume_report<RT, J: Journals, S: Source, W: Write>(
+/// Goes on from the report that was read with `what` cleared, and from a journal where one is named, and writes the
+/// new report; true where every run is a success.
+fn resume_report<RT, J: Journals, W: Write>(
     crew: &Crew<'_, RT>,
-    prepared: Prepared,
-    report: String,
-    what: ToClear,
+    ready: ReadyToClear,
     journal: Option<JournalAsked>,
-    files: &mut S,
     journals: &J,
     out: &mut W,
 ) -> Result<bool, CommandFault>
@@ -224,31 +227,37 @@ where
     RT: Starter + Screen + Threads + Wait + Clock + Sync,
     J::Device: Send,
     ensures ok { IfOk result (λ success. Sends
-        (λ text. IsReportAfterFileBy (launched_in prepared.dated (launching_of crew.now.launching)
+        (λ text. IsReportAfterBy
+        (launched_in ready.prepared.dated (launching_of crew.now.launching)
         (RT.may_hear crew.now.rt.now))
-        (J.journal journals.now) journal prepared.answers prepared.dated.plan.dag
-        prepared.dated.runs
-        (S.file files.old (string_bytes report)) what text success) (W.written out.old)
+        (J.journal journals.now) journal ready.prepared.answers ready.prepared.dated.plan.dag
+        ready.prepared.dated.runs ready.report ready.what text success) (W.written out.old)
         (W.written out.new)) }
-    ensures fault { IfErr result (IsFaultAfterFileBy (is_single_threaded_in crew.now.progress)
-        (with_clocks (launching_of crew.now.launching) (clocks_in prepared.dated))
+    ensures fault { IfErr result (IsFaultAfterBy (is_single_threaded_in crew.now.progress)
+        (with_clocks (launching_of crew.now.launching) (clocks_in ready.prepared.dated))
         (RT.may_lose crew.now.rt.now) (J.journal journals.now) journal
-        prepared.answers prepared.dated.plan.dag prepared.dated.runs (string_bytes report)
-        (S.file files.old (string_bytes report)) what) }
+        ready.prepared.answers ready.prepared.dated.plan.dag ready.prepared.dated.runs
+        ready.report ready.what) }
     ensures left { IfErr result (Leaves (HasHalted (W.failures out.old) (W.failures out.new)
         (W.interruptions out.old) (W.interruptions out.new))
-        (λ text. (success : Bool) × IsReportAfterFileBy
-        (launched_in prepared.dated (launching_of crew.now.launching) (RT.may_hear crew.now.rt.now))
-        (J.journal journals.now) journal prepared.answers prepared.dated.plan.dag
-        prepared.dated.runs
-        (S.file files.old (string_bytes report)) what text success) (W.written out.old)
+        (λ text. (success : Bool) × IsReportAfterBy
+        (launched_in ready.prepared.dated (launching_of crew.now.launching)
+        (RT.may_hear crew.now.rt.now))
+        (J.journal journals.now) journal ready.prepared.answers ready.prepared.dated.plan.dag
+        ready.prepared.dated.runs ready.report ready.what text success) (W.written out.old)
         (W.written out.new)) }
 {
+    let ReadyToClear {
+        prepared,
+        what,
+        report,
+    } = ready;
     match journal {
-        Some(journal) => resume_recorded(
-            crew, prepared, report, what, journal, files, journals, out,
-        ),
-        None => resume_unrecorded(crew, prepared, report, what, files, out),
+        Some(journal) => {
+            let Prepared { dated, answers } = prepared;
+            resume_recorded(crew, &dated, answers, report, what, journal, journals, out)
+        }
+        None => write_resumed_report(crew, prepared, report, what, out),
     }
 }
 
@@ -289,24 +298,22 @@ where
         alloc,
         launcher_used(&asked.table, &asked.launcher),
     )?;
-    let ready = read_and_prepare(alloc, asked.graph, asked.table, named, range, files)?;
-    let PreparedToClear { prepared, what } = ready;
+    let ready = read_with_report(
+        alloc,
+        asked.graph,
+        asked.table,
+        named,
+        range,
+        asked.report,
+        files,
+    )?;
     let (launcher, logs) = (asked.launcher, asked.logs);
-    let by_programs = prepared.answers.is_none();
+    let by_programs = ready.prepared.answers.is_none();
     let tells = tells_by_options(rt, by_programs, asked.quiet, asked.progress, &logs);
     let crew = Crew::new(rt, alloc, asked.workers, asked.progress).with_launching(
         launching_asked(&launcher, &logs),
         tells,
     );
-    let succeeded = resume_report(
-        &crew,
-        prepared,
-        asked.report,
-        what,
-        asked.journal,
-        files,
-        journals,
-        out,
-    )?;
+    let succeeded = resume_report(&crew, ready, asked.journal, journals, out)?;
     Ok(Status::of_runs(succeeded))
 }

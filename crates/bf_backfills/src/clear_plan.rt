@@ -1,12 +1,13 @@
 //! The command `clear --plan`: what is cleared in a report.
-ghost use Rattle.std.specs.Prelude.{IfOk, IfErr};
+ghost use Rattle.std.specs.Prelude.{IfOk, IfErr, OnOk};
 ghost use Rattle.bf_device.specs.Device.{HasHalted};
 ghost use Rattle.bf_command_fault.specs.Refusal.{Leaves, Sends};
 ghost use Rattle.bf_command_fault.specs.declared.status.Status.{Status};
+ghost use Rattle.bf_commands.specs.Planned.{ClearPlanFault, IsClearPlan};
 ghost use Rattle.bf_backfills.specs.Commands.{IsClearPlanAnswer};
 ghost use Rattle.bf_backfills.specs.CommandFaults.{IsClearPlanFault};
 
-use crate::clear::{PreparedToClear, read_and_prepare};
+use crate::clear::{ReadyToClear, read_with_report};
 use crate::named::to_clear_asked;
 use crate::range::range_of;
 use bf_command_fault::{CommandFault, Status};
@@ -14,8 +15,27 @@ use bf_command_line::ClearPlanAsked;
 use bf_commands::write_clear_plan;
 use bf_device::Write;
 use bf_disk::Source;
-use bf_input::read_report_file;
 use std::alloc::Global;
+
+/// Writes what would be cleared in a report that was read. A fault where nothing is.
+fn write_plan<W: Write>(alloc: Global, ready: ReadyToClear, out: &mut W) -> Result<(), CommandFault>
+    ensures ok { OnOk result (Sends
+        (IsClearPlan ready.prepared.dated.plan.dag ready.prepared.dated.runs ready.report
+        ready.what) (W.written out.old) (W.written out.new)) }
+    ensures fault { IfErr result (ClearPlanFault ready.prepared.dated.plan.dag
+        ready.prepared.dated.runs ready.report ready.what) }
+    ensures left { IfErr result (Leaves (HasHalted (W.failures out.old) (W.failures out.new)
+        (W.interruptions out.old) (W.interruptions out.new))
+        (IsClearPlan ready.prepared.dated.plan.dag ready.prepared.dated.runs ready.report
+        ready.what) (W.written out.old) (W.written out.new)) }
+{
+    let ReadyToClear {
+        prepared,
+        what,
+        report,
+    } = ready;
+    write_clear_plan(alloc, &prepared.dated, report, &what, out)
+}
 
 /// Does the command `clear --plan`: writes what would be cleared, and starts no program. The moments are checked
 /// first, then the files but for the report, and then the report.
@@ -34,17 +54,9 @@ pub fn answer_clear_plan<S: Source, W: Write>(
         (λ text. (status : Status) × IsClearPlanAnswer (S.file files.old) asked text status)
         (W.written out.old) (W.written out.new)) }
 {
-    let ClearPlanAsked {
-        graph,
-        report,
-        range,
-        cleared,
-    } = asked;
-    let range = range_of(&range)?;
-    let named = to_clear_asked(alloc, &cleared)?;
-    let ready = read_and_prepare(alloc, graph, None, named, range, files)?;
-    let PreparedToClear { prepared, what } = ready;
-    let report = read_report_file(alloc, report, files)?;
-    write_clear_plan(alloc, &prepared.dated, report, &what, out)?;
+    let range = range_of(&asked.range)?;
+    let named = to_clear_asked(alloc, &asked.cleared)?;
+    let ready = read_with_report(alloc, asked.graph, None, named, range, asked.report, files)?;
+    write_plan(alloc, ready, out)?;
     Ok(Status::Success)
 }

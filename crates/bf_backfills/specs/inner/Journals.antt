@@ -17,7 +17,7 @@ use Rattle.bf_command_fault.specs.declared.fault.CommandFault.{CommandFault}
 use Rattle.bf_command_fault.specs.declared.fault.CommandFault.TheVariants.{CannotRead, CannotWriteFile, Journal as BadJournal, JournalInUse, OutOfMemory, Stopped}
 use Rattle.bf_command_fault.specs.declared.stop.StopFault.{StopFault}
 use Rattle.bf_planning.specs.declared.range.RunRange.{RunRange}
-use Rattle.bf_commands.specs.Cleared.{IsUncleared}
+use Rattle.bf_commands.specs.Cleared.{ClearingFault, IsReportAfter, IsUncleared}
 use Rattle.bf_planning.specs.Graphs.{IsGraph}
 use Rattle.bf_commands.specs.Journaled.{Heading, IsClearedBy, JournalReportFault, IsJournaledAfter, IsJournalReport}
 use Rattle.bf_planning.specs.Lists.{HasListing, ListFault}
@@ -26,9 +26,6 @@ use Rattle.bf_process.specs.Words.{LaunchingOf}
 use Rattle.bf_commands.specs.Programs.{HearingTries, RunFault, Losing}
 use Rattle.bf_disk.specs.Files.{Files}
 use Rattle.bf_backfills.specs.Commands.{IsUnopened, OfJournal}
-use Rattle.bf_input.specs.Inputs.{IsReportFault}
-use Rattle.bf_input.specs.inner.Inputs.{IsReadOf}
-use Rattle.bf_backfills.specs.inner.Files.{IsFaultAfterFile, IsReportAfterFile}
 use Rattle.bf_disk.specs.declared.journals.OpenFault.{OpenFault}
 
 -- why there is no answer where a path's journal isn't open
@@ -95,17 +92,6 @@ IsFaultOfRunBy launching may_lose journals (Some asked) range graph zone fault =
 
 -- ---- of `clear`
 
--- the report of the backfill that goes on from a journal, and else from that of a file where this is cleared
-pub record IsJournaledAfterFile (may_hear : HearingTries) (journals : Files)
-    (answers : Option (List TableEntry)) (dag : Dag) (found : List Interval)
-    (file : Option (Option (List ℕ))) (what : ToClear) (asked : JournalAsked) (text : List ℕ)
-    (success : Bool) : Type 0 where
-  pub was : Report
-  pub read : IsReadOf file was
-  pub reported : OfJournal journals asked
-      (λ held. IsJournaledAfter may_hear answers dag found was what asked.retry_failed held text
-      success)
-
 -- what is kept of a report where this is cleared, and the backfill that goes on from a journal and from that has this fault
 pub record GoesWrongAfter (logs : Option (List ℕ)) (journals : Files) (dag : Dag)
     (found : List Interval) (was : Report) (what : ToClear) (asked : JournalAsked)
@@ -115,28 +101,25 @@ pub record GoesWrongAfter (logs : Option (List ℕ)) (journals : Files) (dag : D
   pub cleared_is : IsClearedBy dag found was what kept cleared
   pub fault_is : IsFaultOver journals asked kept cleared logs dag found fault
 
--- the fault of a report's file, or of what is cleared, or else of the backfill that goes on
-abbrev pub IsFaultSinceFile : Option (List ℕ) → Files → Dag → List Interval → List ℕ
-    → Option (Option (List ℕ)) → ToClear → JournalAsked → CommandFault → Type 0
-IsFaultSinceFile logs journals dag found path file what asked fault = IsReportFault path file fault
-    ⊎ ((was : Report) × IsReadOf file was
-    × (IsUncleared dag found was what fault
-    ⊎ GoesWrongAfter logs journals dag found was what asked fault))
+-- the fault of what is cleared, or else of the backfill that goes on
+abbrev pub IsFaultSince : Option (List ℕ) → Files → Dag → List Interval → Report → ToClear
+    → JournalAsked → CommandFault → Type 0
+IsFaultSince logs journals dag found was what asked fault = IsUncleared dag found was what fault
+    ⊎ GoesWrongAfter logs journals dag found was what asked fault
 
--- so it is where a journal is named; and where none is, without one
-abbrev pub IsReportAfterFileBy : HearingTries → Files → Option JournalAsked
-    → Option (List TableEntry) → Dag → List Interval → Option (Option (List ℕ)) → ToClear → List ℕ
-    → Bool → Type 0
-IsReportAfterFileBy may_hear journals None answers dag found file what text success =
-    IsReportAfterFile may_hear answers dag found file what text success
-IsReportAfterFileBy may_hear journals (Some asked) answers dag found file what text success =
-    IsJournaledAfterFile may_hear journals answers dag found file what asked text success
+-- the report of the backfill that goes on from a report where this is cleared; where a journal is named, from that first
+abbrev pub IsReportAfterBy : HearingTries → Files → Option JournalAsked → Option (List TableEntry)
+    → Dag → List Interval → Report → ToClear → List ℕ → Bool → Type 0
+IsReportAfterBy may_hear journals None answers dag found was what text success =
+    IsReportAfter may_hear answers dag found was what text success
+IsReportAfterBy may_hear journals (Some asked) answers dag found was what text success =
+    OfJournal journals asked (λ held. IsJournaledAfter may_hear answers dag found was what
+    asked.retry_failed held text success)
 
-abbrev pub IsFaultAfterFileBy : Bool → LaunchingOf → Losing → Files → Option JournalAsked
-    → Option (List TableEntry) → Dag → List Interval → List ℕ → Option (Option (List ℕ)) → ToClear
-    → CommandFault → Type 0
-IsFaultAfterFileBy alone launching may_lose journals None answers dag found path file what fault =
-    IsFaultAfterFile alone launching may_lose answers dag found path file what fault
-IsFaultAfterFileBy alone launching may_lose journals
-    (Some asked) answers dag found path file what fault = IsFaultSinceFile launching.logs journals
-    dag found path file what asked fault
+-- and its fault
+abbrev pub IsFaultAfterBy : Bool → LaunchingOf → Losing → Files → Option JournalAsked
+    → Option (List TableEntry) → Dag → List Interval → Report → ToClear → CommandFault → Type 0
+IsFaultAfterBy alone launching may_lose journals None answers dag found was what fault =
+    ClearingFault alone launching may_lose answers dag found was what fault
+IsFaultAfterBy alone launching may_lose journals (Some asked) answers dag found was what fault =
+    IsFaultSince launching.logs journals dag found was what asked fault

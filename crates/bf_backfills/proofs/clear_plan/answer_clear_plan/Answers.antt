@@ -1,9 +1,8 @@
-use Rattle.std.proofs.Common.{string_bytes}
 use Rattle.bf_command_fault.proofs.Leaving.{leaves_due}
 use Rattle.bf_command_fault.specs.declared.status.Status.{Status}
 use Rattle.bf_backfills.specs.Commands.{plan_input}
-use Rattle.bf_backfills.proofs.ClearInputs.{named_preparing, named_readable, preparing_leaves, read_means, report_leaves}
-use Rattle.bf_backfills.proofs.ClearEnds.{of_planning, plan_answer, plan_fault, plan_unmeant, plan_unreported, unmeant_leaves}
+use Rattle.bf_backfills.proofs.ClearInputs.{named_readable, named_reading, read_means, reading_leaves}
+use Rattle.bf_backfills.proofs.ClearEnds.{of_planning, plan_answer, plan_fault, plan_unmeant, unmeant_leaves}
 use Rattle.bf_backfills.proofs.Exits.{fails}
 use Rattle.bf_backfills.proofs.clear_plan.answer_clear_plan.Goals as goal
 
@@ -17,45 +16,33 @@ returns-in_err-ready g c =
     let files = g.S.Source.file c.args.files.now in
     fails _ _ _ _ _ c.from_residual-in_err-ready.ensures.1
     (of_planning files c.args.asked c.in_ok-range.range c.in_ok-range.ensures.means _
-    (named_preparing files (plan_input c.args.asked) c.in_ok-range.range c.in_ok-named.named c.in_ok-named.ensures.means _ c.in_err-ready.ensures.fault))
-    (preparing_leaves _ _ _ files c.args.asked.graph _ _ c.in_ok-range.range _ c.in_err-ready.ensures.fault)
+    (named_reading files (plan_input c.args.asked) c.in_ok-range.range c.in_ok-named.named c.in_ok-named.ensures.means _ c.in_err-ready.ensures.fault))
+    (reading_leaves _ _ _ files c.args.asked.graph _ _ c.in_ok-range.range _ _ c.in_err-ready.ensures.fault)
 
-pub returns-in_err-report : goal.returns-in_err-report
-returns-in_err-report g c =
+pub returns-in_err-write_plan : goal.returns-in_err-write_plan
+returns-in_err-write_plan g c =
     let files = g.S.Source.file c.args.files.now in
     let ready = c.in_ok-ready.ensures in
-    fails _ _ _ _ _ c.from_residual-in_err-report.ensures.1
-    (plan_unreported files c.args.asked c.in_ok-range.range c.in_ok-range.ensures.means _ _ _ _
-    (named_readable files (plan_input c.args.asked) c.in_ok-range.range c.in_ok-named.named c.in_ok-named.ensures.means ready.readable) c.in_ok-ready.ready.what
-    (read_means files c.args.asked.cleared c.in_ok-named.named c.in_ok-ready.ready.what c.in_ok-named.ensures.means ready.what) ready.said _ (ready.stays (string_bytes c.args.asked.report)) _ c.in_err-report.ensures.fault)
-    (report_leaves _ _ _ _ _ _ c.in_err-report.ensures.fault)
-
-pub returns-in_err-write_clear_plan : goal.returns-in_err-write_clear_plan
-returns-in_err-write_clear_plan g c =
-    let files = g.S.Source.file c.args.files.now in
-    let ready = c.in_ok-ready.ensures in
-    let read = c.in_ok-report.ensures in
     let readable = named_readable files (plan_input c.args.asked) c.in_ok-range.range c.in_ok-named.named c.in_ok-named.ensures.means ready.readable in
     let means_what = read_means files c.args.asked.cleared c.in_ok-named.named c.in_ok-ready.ready.what c.in_ok-named.ensures.means ready.what in
-    fails _ _ _ _ _ c.from_residual-in_err-write_clear_plan.ensures.1
-    (plan_fault files c.args.asked c.in_ok-range.range c.in_ok-range.ensures.means _ _ _ _ readable c.in_ok-ready.ready.what means_what ready.said _ (ready.stays (string_bytes c.args.asked.report))
-    c.in_ok-report.report (record { readable = read.readable; says = read.says }) _ c.in_err-write_clear_plan.ensures.fault)
+    fails _ _ _ _ _ c.from_residual-in_err-write_plan.ensures.1
+    (plan_fault files c.args.asked c.in_ok-range.range c.in_ok-range.ensures.means _ _ _ _ readable c.in_ok-ready.ready.what means_what ready.said
+    c.in_ok-ready.ready.report ready.report _ c.in_err-write_plan.ensures.fault)
     (leaves_due _ _ _ (λ text is. (
       Status.Success,
-      plan_answer files c.args.asked c.in_ok-range.range c.in_ok-range.ensures.means _ _ _ _ readable c.in_ok-ready.ready.what means_what ready.said _ (ready.stays (string_bytes c.args.asked.report))
-          c.in_ok-report.report (record { readable = read.readable; says = read.says }) text is,
-    )) _ _ _ c.in_err-write_clear_plan.ensures.left)
+      plan_answer files c.args.asked c.in_ok-range.range c.in_ok-range.ensures.means _ _ _ _ readable c.in_ok-ready.ready.what means_what ready.said
+          c.in_ok-ready.ready.report ready.report text is,
+    )) _ _ _ c.in_err-write_plan.ensures.left)
 
 pub returns-clause-answer : goal.returns-clause-answer
 returns-clause-answer g c =
     let files = g.S.Source.file c.args.files.now in
     let ready = c.in_ok-ready.ensures in
-    let read = c.in_ok-report.ensures in
     let readable = named_readable files (plan_input c.args.asked) c.in_ok-range.range c.in_ok-named.named c.in_ok-named.ensures.means ready.readable in
     let means_what = read_means files c.args.asked.cleared c.in_ok-named.named c.in_ok-ready.ready.what c.in_ok-named.ensures.means ready.what in
-    let sends = c.in_ok-write_clear_plan.ensures.ok in (
+    let sends = c.in_ok-write_plan.ensures.ok in (
       sends.0,
-      plan_answer files c.args.asked c.in_ok-range.range c.in_ok-range.ensures.means _ _ _ _ readable c.in_ok-ready.ready.what means_what ready.said _ (ready.stays (string_bytes c.args.asked.report))
-          c.in_ok-report.report (record { readable = read.readable; says = read.says }) sends.0 sends.1,
+      plan_answer files c.args.asked c.in_ok-range.range c.in_ok-range.ensures.means _ _ _ _ readable c.in_ok-ready.ready.what means_what ready.said
+          c.in_ok-ready.ready.report ready.report sends.0 sends.1,
       sends.2,
     )
