@@ -9,7 +9,6 @@ use Rattle.bf_try.specs.Tries.{Ledger}
 use Rattle.bf_command_line.specs.declared.forms.ClearAsked.{ClearAsked}
 use Rattle.bf_command_line.specs.declared.forms.ClearPlanAsked.{ClearPlanAsked}
 use Rattle.bf_command_line.specs.declared.forms.JournalAsked.{JournalAsked}
-use Rattle.bf_command_fault.specs.Refusal.{Leaves}
 use Rattle.bf_command_fault.specs.Status.{of_runs}
 use Rattle.bf_command_fault.specs.declared.fault.CommandFault.{CommandFault}
 use Rattle.bf_command_fault.specs.declared.fault.CommandFault.TheVariants.{Read, Check, Table, Range, Report, Journal, Clear, Seeds, JournalInUse, BadMoment, OutOfMemory, CannotLaunch, CannotRead, CannotWriteFile, CannotWrite, Stopped}
@@ -23,46 +22,43 @@ use Rattle.bf_commands.specs.OverTable.{is_single_threaded_in}
 use Rattle.bf_commands.specs.Planned.{IsClearPlan, ClearPlanFault}
 use Rattle.bf_process.specs.Words.{LaunchingOf}
 use Rattle.bf_commands.specs.Programs.{Hearing, Losing, launched_by, with_clocks}
-use Rattle.bf_commands.proofs.Faults.{unwritten_leaves}
 use Rattle.bf_disk.specs.Files.{AreReadable, Files, IsHeld, IsReadable}
 use Rattle.bf_input.specs.Inputs.{OfFilesAndNamedTable}
 use Rattle.bf_input.specs.inner.Inputs.{IsReadOf}
-use Rattle.bf_backfills.specs.Commands.{HasNoMoment, IsClearAnswer, IsClearPlanAnswer, IsClearReportBy, IsLaunchable, Machine, MeansCleared, MeansRange, OfClearFiles, OfJournal, clear_input, first_paths, launcher_used_of, launching_asked_of, plan_input}
+use Rattle.bf_backfills.specs.Commands.{IsClearAnswer, IsClearPlanAnswer, IsClearReportBy, IsLaunchable, Machine, MeansCleared, MeansRange, OfClearFiles, OfJournal, Startable, clear_input, first_paths, launcher_used_of, launching_asked_of, plan_input}
 use Rattle.bf_backfills.specs.CommandFaults.{CanClear, GoesWrongOver, IsClearFault, IsClearFaultBy, IsClearPlanFault, IsFaultOfClear, IsFaultOfClearing, IsRecordedClearFault}
-use Rattle.bf_backfills.specs.inner.CommandFaults.{IsFaultOfLauncher}
-use Rattle.bf_backfills.specs.inner.Named.{IsUnmeant}
+use Rattle.bf_backfills.specs.inner.CommandFaults.{IsFaultOfAsked, IsFaultOfLauncher}
+use Rattle.bf_backfills.specs.inner.Named.{IsFaultOfMeaning}
 use Rattle.bf_backfills.specs.inner.Files.{IsOfBytes}
 use Rattle.bf_backfills.specs.inner.Journals.{GoesWrongAfter, IsFaultAfterBy, IsReportAfterBy}
 use Rattle.bf_backfills.proofs.ClearInputs.{prepared_held, ready, uncleared}
 
--- ---- the launcher
+-- ---- before a file is read
 
-pub clear_unlaunched : (may_lose : Losing) (files : Files) (machine : Machine) (asked : ClearAsked) (range : RunRange) → MeansRange asked.range range → (fault : CommandFault)
-    → IsFaultOfLauncher machine.startable (launcher_used_of asked.table asked.launcher) fault → IsClearFault may_lose files machine asked fault
-clear_unlaunched may_lose files machine asked range means (CannotLaunch path) is = is
-clear_unlaunched may_lose files machine asked range means OutOfMemory is = (range, means, go asked.journal)
+pub clear_unasked : (may_lose : Losing) (files : Files) (machine : Machine) (asked : ClearAsked) (fault : CommandFault) → IsFaultOfAsked machine.startable asked fault → IsClearFault may_lose files machine asked fault
+clear_unasked may_lose files machine asked BadMoment is = is
+clear_unasked may_lose files machine asked (CannotLaunch path) is = is
+clear_unasked may_lose files machine asked OutOfMemory is = (is.0, is.1, go asked.journal)
   where
-    go : (o : Option JournalAsked) → IsClearFaultBy may_lose files machine.journals asked o range OutOfMemory
+    go : (o : Option JournalAsked) → IsClearFaultBy may_lose files machine.journals asked o is.0 OutOfMemory
     go None = tt
     go (Some journal) = tt
-clear_unlaunched may_lose files machine asked range means fault is = absurd is
+clear_unasked may_lose files machine asked fault is = absurd is
 
--- ---- the moments of a line
+pub asked_unmeant : (startable : Startable) (asked : ClearAsked) (fault : CommandFault) → IsFaultOfMeaning asked.range asked.cleared fault → IsFaultOfAsked startable asked fault
+asked_unmeant startable asked (CannotLaunch path) is = absurd is
+asked_unmeant startable asked fault is = is
 
-pub clear_unmeant : (may_lose : Losing) (files : Files) (machine : Machine) (asked : ClearAsked) (range : RunRange) → MeansRange asked.range range → (fault : CommandFault)
-    → IsUnmeant (HasNoMoment asked.cleared) fault → IsClearFault may_lose files machine asked fault
-clear_unmeant may_lose files machine asked range means BadMoment is = inr is
-clear_unmeant may_lose files machine asked range means OutOfMemory is = clear_unlaunched may_lose files machine asked range means OutOfMemory tt
-clear_unmeant may_lose files machine asked range means fault is = absurd is
+pub asked_unlaunched : (startable : Startable) (asked : ClearAsked) (range : RunRange) → MeansRange asked.range range → (fault : CommandFault)
+    → IsFaultOfLauncher startable (launcher_used_of asked.table asked.launcher) fault → IsFaultOfAsked startable asked fault
+asked_unlaunched startable asked range means (CannotLaunch path) is = is
+asked_unlaunched startable asked range means OutOfMemory is = (range, means)
+asked_unlaunched startable asked range means fault is = absurd is
 
-pub plan_unmeant : (files : Files) (asked : ClearPlanAsked) (range : RunRange) → MeansRange asked.range range → (fault : CommandFault) → IsUnmeant (HasNoMoment asked.cleared) fault → IsClearPlanFault files asked fault
-plan_unmeant files asked range means BadMoment is = inr is
-plan_unmeant files asked range means OutOfMemory is = (range, means, tt)
-plan_unmeant files asked range means fault is = absurd is
-
--- nothing went out before a file is read
-pub unmeant_leaves : (Halted : Type 0) (IsDue : List ℕ → Type 0) (before : Option (List ℕ)) (HasNone : Type 0) (fault : CommandFault) → IsUnmeant HasNone fault → Leaves Halted IsDue before before fault
-unmeant_leaves Halted IsDue before HasNone fault is = unwritten_leaves Halted IsDue before (IsUnmeant HasNone) (λ n written. written) fault is
+pub plan_unmeant : (files : Files) (asked : ClearPlanAsked) (fault : CommandFault) → IsFaultOfMeaning asked.range asked.cleared fault → IsClearPlanFault files asked fault
+plan_unmeant files asked BadMoment is = is
+plan_unmeant files asked OutOfMemory is = (is.0, is.1, tt)
+plan_unmeant files asked fault is = absurd is
 
 -- ---- where it is cleared
 

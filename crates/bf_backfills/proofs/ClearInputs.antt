@@ -28,15 +28,15 @@ use Rattle.bf_backfills.specs.CommandFaults.{IsFaultOfClearing, OfReadClearFiles
 use Rattle.bf_backfills.specs.declared.named.UnreadToClear.{UnreadToClear}
 use Rattle.bf_backfills.specs.declared.named.UnreadToClear.TheVariants as naming
 use Rattle.bf_backfills.specs.inner.Named.{IsReadFor, MeansNamed, path_of}
-use Rattle.bf_backfills.specs.inner.Files.{IsFaultOfReading, IsOfBytes, IsPreparingFault}
+use Rattle.bf_backfills.specs.inner.Files.{IsFaultBeforeClearing, IsOfBytes, IsPreparingFault}
 use Rattle.bf_backfills.proofs.Alike.{clocks_alike, fault_in, graph_of, listing_of}
 use Rattle.bf_backfills.proofs.Exits.{reading_cases}
 
 -- nothing went out before what is to be cleared is looked for
 pub reading_leaves : (Halted : Type 0) (IsDue : List ℕ → Type 0) (before : Option (List ℕ)) (files : Files) (asked : GraphAsked) (path : Option (List ℕ)) (named : UnreadToClear) (range : RunRange) (report : List ℕ) (fault : CommandFault)
-    → IsFaultOfReading files asked path named range report fault → Leaves Halted IsDue before before fault
+    → IsFaultBeforeClearing files asked path named range report fault → Leaves Halted IsDue before before fault
 reading_leaves Halted IsDue before files asked path named range report fault is =
-    unwritten_leaves Halted IsDue before (IsFaultOfReading files asked path named range report)
+    unwritten_leaves Halted IsDue before (IsFaultBeforeClearing files asked path named range report)
     (λ n written. elim written [ inl preparing ↦ elim preparing [ inl reading ↦ reading | inr said ↦ said.1.holds ] | inr reported ↦ reported.3 ]) fault is
 
 -- ---- by what the files are told to hold
@@ -206,6 +206,6 @@ module _ (files : Files) (input : ClearInput) (range : RunRange) where
     named_readable readable = subst (λ (o : Option (List ℕ)). AreReadable files (clear_paths input.graph input.table o)) (path_named input.cleared named means_named) readable
 
     -- a fault of the files is the command's
-    pub named_reading : (fault : CommandFault) → IsFaultOfReading files input.graph input.table named range input.report fault → IsFaultOfClearing files input range fault
+    pub named_reading : (fault : CommandFault) → IsFaultBeforeClearing files input.graph input.table named range input.report fault → IsFaultOfClearing files input range fault
     named_reading fault (inl is) = preparing fault (subst (λ (o : Option (List ℕ)). IsPreparingFault files input.graph input.table o range fault) (path_named input.cleared named means_named) is)
     named_reading fault (inr (readable, said, (what, read), is)) = unreported (named_readable readable) what (read_means files input.cleared named what means_named read) said fault is

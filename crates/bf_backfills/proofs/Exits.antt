@@ -1,5 +1,5 @@
 -- What commands come to where `?` passes a fault up, and where their runs have ended.
-use Rattle.std.proofs.Common.{◌≡◌, ℕ, Bool, List, Option, Result, Ok, Err, IfOk, IfErr, IsErrAnd, sym, subst}
+use Rattle.std.proofs.Common.{◌≡◌, ℕ, Bool, List, Option, Result, Ok, Err, IfOk, IfErr, IsErrAnd, IsOkAnd, MatchResult, sym, subst}
 use Rattle.bf_command_fault.specs.Refusal.{Leaves, Sends}
 use Rattle.bf_command_fault.specs.Status.{of_runs}
 use Rattle.bf_command_fault.specs.declared.fault.CommandFault.{CommandFault}
@@ -38,13 +38,27 @@ reading_fails r fault IsAnswer IsFault Halted IsDue before up files paths is mem
 
 -- ---- a command whose answer says whether every run is a success
 
-module _ (Is : List ℕ → Bool → Type 0) (IsDue : List ℕ → Status → Type 0) (answer : (text : List ℕ) (success : Bool) → Is text success → IsDue text (of_runs success)) (before after : Option (List ℕ)) where
+-- it ends as its runs do
+abbrev pub EndsAs : Result Bool CommandFault → Result Status CommandFault → Type 0
+EndsAs runs ends = MatchResult runs (λ success. IsOkAnd ends (λ status. status ≡ of_runs success)) (λ fault. ends ≡ Err fault)
+
+ends_well : (runs : Result Bool CommandFault) (ends : Result Status CommandFault) → EndsAs runs ends → (P : Bool → Type 0) (Q : Status → Type 0) → ((success : Bool) → P success → Q (of_runs success)) → IfOk runs P → IfOk ends Q
+ends_well (Ok success) (Ok status) same P Q is ok = subst Q (sym same) (is success ok)
+ends_well (Ok success) (Err fault) same P Q is ok = absurd same
+ends_well (Err fault) ends same P Q is ok = subst (λ (r : Result Status CommandFault). IfOk r Q) (sym same) tt
+
+-- with their fault
+pub ends_badly : (runs : Result Bool CommandFault) (ends : Result Status CommandFault) → EndsAs runs ends → (P Q : CommandFault → Type 0) → ((fault : CommandFault) → P fault → Q fault) → IfErr runs P → IfErr ends Q
+ends_badly (Ok success) (Ok status) same P Q is err = tt
+ends_badly (Ok success) (Err fault) same P Q is err = absurd same
+ends_badly (Err fault) ends same P Q is err = subst (λ (r : Result Status CommandFault). IfErr r Q) (sym same) (is fault err)
+
+module _ (Is : List ℕ → Bool → Type 0) (IsDue : List ℕ → Status → Type 0) (answer : (text : List ℕ) (success : Bool) → Is text success → IsDue text (of_runs success)) (before after : Option (List ℕ)) (runs : Result Bool CommandFault) (ends : Result Status CommandFault) (same : EndsAs runs ends) where
   -- what it sends
-  pub runs_send : (success : Bool) (status : Status) → status ≡ of_runs success → Sends (λ text. Is text success) before after → Sends (λ text. IsDue text status) before after
-  runs_send success status same sends = (sends.0, rw same (answer sends.0 success sends.1), sends.2)
+  pub runs_send : IfOk runs (λ success. Sends (λ text. Is text success) before after) → IfOk ends (λ status. Sends (λ text. IsDue text status) before after)
+  runs_send = ends_well runs ends same _ _ (λ success sends. (sends.0, answer sends.0 success sends.1, sends.2))
 
   -- and what a fault leaves of it
-  pub runs_leave : (Halted : Type 0) (fault : CommandFault) → Leaves Halted (λ text. (success : Bool) × Is text success) before after fault
-      → Leaves Halted (λ text. (status : Status) × IsDue text status) before after fault
-  runs_leave Halted fault left =
-      leaves_due Halted (λ text. (success : Bool) × Is text success) (λ text. (status : Status) × IsDue text status) (λ text is. (of_runs is.0, answer text is.0 is.1)) before after fault left
+  pub runs_leave : (Halted : Type 0) → IfErr runs (Leaves Halted (λ text. (success : Bool) × Is text success) before after) → IfErr ends (Leaves Halted (λ text. (status : Status) × IsDue text status) before after)
+  runs_leave Halted = ends_badly runs ends same _ _ (λ fault left.
+      leaves_due Halted (λ text. (success : Bool) × Is text success) (λ text. (status : Status) × IsDue text status) (λ text is. (of_runs is.0, answer text is.0 is.1)) before after fault left)

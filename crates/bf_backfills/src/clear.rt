@@ -12,19 +12,19 @@ ghost use Rattle.bf_command_fault.specs.Refusal.{Leaves, Sends};
 ghost use Rattle.bf_command_fault.specs.declared.status.Status.{Status};
 ghost use Rattle.bf_disk.specs.Files.{AreReadable};
 ghost use Rattle.bf_input.specs.Inputs.{OfFilesAndNamedTable, clear_paths, AreAlike, IsReadingFault, bytes_of};
-ghost use Rattle.bf_backfills.specs.Commands.{IsClearAnswer, launcher_used_of, machine_of};
+ghost use Rattle.bf_backfills.specs.Commands.{IsClearAnswer, IsLaunchable, MeansRange, launcher_used_of, machine_of};
 ghost use Rattle.bf_backfills.specs.CommandFaults.{IsClearFault};
 ghost use Rattle.bf_input.specs.inner.Inputs.{IsReadOf};
-ghost use Rattle.bf_backfills.specs.inner.Files.{IsFaultOfReading, IsOfBytes, IsPreparingFault};
+ghost use Rattle.bf_backfills.specs.inner.CommandFaults.{IsFaultOfAsked};
+ghost use Rattle.bf_backfills.specs.inner.Files.{IsFaultBeforeClearing, IsOfBytes, IsPreparingFault};
 ghost use Rattle.bf_backfills.specs.inner.Journals.{IsFaultAfterBy, IsFaultSince, IsReportAfterBy};
-ghost use Rattle.bf_backfills.specs.inner.Named.{IsReadFor, path_of};
+ghost use Rattle.bf_backfills.specs.inner.Named.{IsReadFor, MeansNamed, path_of};
 
 use crate::journaled::record_clearing;
 use crate::launching::{
     launching_asked, path_named, refuse_unstartable_launcher, tells_by_options,
 };
-use crate::named::{UnreadToClear, read_to_clear, to_clear_asked};
-use crate::range::range_of;
+use crate::named::{Meant, UnreadToClear, meaning_of, read_to_clear};
 use bf_command_fault::{CommandFault, Status};
 use bf_command_line::{ClearAsked, GraphAsked, JournalAsked};
 use bf_commands::{
@@ -33,7 +33,7 @@ use bf_commands::{
 use bf_device::Write;
 use bf_disk::{Journals, Launchers, Source};
 use bf_input::{GraphFiles, read_graph_files, read_named_table, read_report_file};
-use bf_planning::{DatedPlan, RunRange};
+use bf_planning::DatedPlan;
 use bf_process::Starter;
 use bf_report::Report;
 use bf_table::Table;
@@ -50,6 +50,25 @@ fn launcher_used<'a>(table: &Option<String>, launcher: &'a Option<String>) -> Op
         Some(_) => None,
         None => path_named(launcher),
     }
+}
+
+/// What a line of `clear` means, once the moments are checked, and then the launcher where no table is named. No file
+/// is read.
+fn check_asked<L: Launchers>(
+    launchers: &L,
+    alloc: Global,
+    asked: &ClearAsked,
+) -> Result<Meant, CommandFault>
+    ensures range { IfOk result (λ meant. MeansRange asked.now.range meant.range) }
+    ensures named { IfOk result (λ meant. MeansNamed asked.now.cleared meant.named) }
+    ensures launchable { OnOk result (IsLaunchable (L.startable launchers.now)
+        (launcher_used_of asked.now.table asked.now.launcher)) }
+    ensures fault { IfErr result (IsFaultOfAsked (L.startable launchers.now) asked.now) }
+{
+    let meant = meaning_of(alloc, &asked.range, &asked.cleared)?;
+    let launcher = launcher_used(&asked.table, &asked.launcher);
+    refuse_unstartable_launcher(launchers, alloc, launcher)?;
+    Ok(meant)
 }
 
 /// The files of `clear` that are read before any is checked, and what is to be cleared. The report isn't one of them.
@@ -109,29 +128,28 @@ fn read_and_prepare<S: Source>(
     alloc: Global,
     graph: GraphAsked,
     table: Option<String>,
-    named: UnreadToClear,
-    range: RunRange,
+    meant: Meant,
     files: &mut S,
 ) -> Result<PreparedToClear, CommandFault>
     ensures said { IfOk result (λ p. IsOfBytes (S.file files.old) graph
         (option_map string_bytes table) (λ bytes zone entries.
-        IsPrepared bytes zone entries range p.prepared.dated.plan.dag p.prepared.dated.runs
+        IsPrepared bytes zone entries meant.range p.prepared.dated.plan.dag p.prepared.dated.runs
         (clocks_in p.prepared.dated) p.prepared.answers)) }
-    ensures what { IfOk result (λ p. IsReadFor (S.file files.old) named p.what) }
+    ensures what { IfOk result (λ p. IsReadFor (S.file files.old) meant.named p.what) }
     ensures readable { OnOk result
         (AreReadable (S.file files.old)
-        (clear_paths graph (option_map string_bytes table) (path_of named))) }
+        (clear_paths graph (option_map string_bytes table) (path_of meant.named))) }
     ensures fault { IfErr result (IsPreparingFault (S.file files.old) graph
-        (option_map string_bytes table) (path_of named) range) }
+        (option_map string_bytes table) (path_of meant.named) meant.range) }
     ensures stays { (p : List ℕ) → S.file files.new p ≡ S.file files.old p }
 {
-    let read = read_clear_files(alloc, graph, table, named, files)?;
+    let read = read_clear_files(alloc, graph, table, meant.named, files)?;
     let prepared = prepare_backfill(
         alloc,
         &read.graph.graph,
         read.graph.zone_file(),
         read.table(),
-        range,
+        meant.range,
     )?;
     Ok(PreparedToClear {
         prepared,
@@ -153,25 +171,24 @@ pub(crate) fn read_with_report<S: Source>(
     alloc: Global,
     graph: GraphAsked,
     table: Option<String>,
-    named: UnreadToClear,
-    range: RunRange,
+    meant: Meant,
     report: String,
     files: &mut S,
 ) -> Result<ReadyToClear, CommandFault>
     ensures said { IfOk result (λ r. IsOfBytes (S.file files.old) graph
         (option_map string_bytes table) (λ bytes zone entries.
-        IsPrepared bytes zone entries range r.prepared.dated.plan.dag r.prepared.dated.runs
+        IsPrepared bytes zone entries meant.range r.prepared.dated.plan.dag r.prepared.dated.runs
         (clocks_in r.prepared.dated) r.prepared.answers)) }
-    ensures what { IfOk result (λ r. IsReadFor (S.file files.old) named r.what) }
+    ensures what { IfOk result (λ r. IsReadFor (S.file files.old) meant.named r.what) }
     ensures report { IfOk result (λ r. IsReadOf (S.file files.old (string_bytes report))
         r.report) }
     ensures readable { OnOk result
         (AreReadable (S.file files.old)
-        (clear_paths graph (option_map string_bytes table) (path_of named))) }
-    ensures fault { IfErr result (IsFaultOfReading (S.file files.old) graph
-        (option_map string_bytes table) named range (string_bytes report)) }
+        (clear_paths graph (option_map string_bytes table) (path_of meant.named))) }
+    ensures fault { IfErr result (IsFaultBeforeClearing (S.file files.old) graph
+        (option_map string_bytes table) meant.named meant.range (string_bytes report)) }
 {
-    let ready = read_and_prepare(alloc, graph, table, named, range, files)?;
+    let ready = read_and_prepare(alloc, graph, table, meant, files)?;
     let report = read_report_file(alloc, report, files)?;
     Ok(ReadyToClear {
         prepared: ready.prepared,
@@ -291,22 +308,8 @@ where
         (machine_of (J.journal journals.now) (J.startable journals.now)) asked text status)
         (W.written out.old) (W.written out.new)) }
 {
-    let range = range_of(&asked.range)?;
-    let named = to_clear_asked(alloc, &asked.cleared)?;
-    refuse_unstartable_launcher(
-        journals,
-        alloc,
-        launcher_used(&asked.table, &asked.launcher),
-    )?;
-    let ready = read_with_report(
-        alloc,
-        asked.graph,
-        asked.table,
-        named,
-        range,
-        asked.report,
-        files,
-    )?;
+    let meant = check_asked(journals, alloc, &asked)?;
+    let ready = read_with_report(alloc, asked.graph, asked.table, meant, asked.report, files)?;
     let (launcher, logs) = (asked.launcher, asked.logs);
     let by_programs = ready.prepared.answers.is_none();
     let tells = tells_by_options(rt, by_programs, asked.quiet, asked.progress, &logs);
@@ -314,6 +317,5 @@ where
         launching_asked(&launcher, &logs),
         tells,
     );
-    let succeeded = resume_report(&crew, ready, asked.journal, journals, out)?;
-    Ok(Status::of_runs(succeeded))
+    resume_report(&crew, ready, asked.journal, journals, out).map(Status::of_runs)
 }

@@ -8,8 +8,7 @@ ghost use Rattle.bf_backfills.specs.Commands.{IsClearPlanAnswer};
 ghost use Rattle.bf_backfills.specs.CommandFaults.{IsClearPlanFault};
 
 use crate::clear::{ReadyToClear, read_with_report};
-use crate::named::to_clear_asked;
-use crate::range::range_of;
+use crate::named::meaning_of;
 use bf_command_fault::{CommandFault, Status};
 use bf_command_line::ClearPlanAsked;
 use bf_commands::write_clear_plan;
@@ -54,9 +53,8 @@ pub fn answer_clear_plan<S: Source, W: Write>(
         (λ text. (status : Status) × IsClearPlanAnswer (S.file files.old) asked text status)
         (W.written out.old) (W.written out.new)) }
 {
-    let range = range_of(&asked.range)?;
-    let named = to_clear_asked(alloc, &asked.cleared)?;
-    let ready = read_with_report(alloc, asked.graph, None, named, range, asked.report, files)?;
+    let meant = meaning_of(alloc, &asked.range, &asked.cleared)?;
+    let ready = read_with_report(alloc, asked.graph, None, meant, asked.report, files)?;
     write_plan(alloc, ready, out)?;
     Ok(Status::Success)
 }

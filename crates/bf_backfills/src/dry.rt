@@ -41,13 +41,13 @@ pub fn answer_dry<RT: Starter + Screen + Threads + Wait + Clock + Sync, S: Sourc
     let files = read_files_with_table(alloc, asked.graph, asked.table, files)?;
     let graph = &files.graph;
     let crew = Crew::new(rt, alloc, asked.workers, asked.progress);
-    let succeeded = run_dry(
+    run_dry(
         &crew,
         &graph.graph,
         graph.zone_file(),
         &files.table,
         range,
         out,
-    )?;
-    Ok(Status::of_runs(succeeded))
+    )
+    .map(Status::of_runs)
 }

@@ -3,15 +3,17 @@ ghost use Rattle.std.specs.Prelude.{◌≡◌, ◌∷◌, ◌++◌, [], ℕ, Lis
 ghost use Rattle.bf_disk.specs.Files.{AreReadable, named_paths};
 ghost use Rattle.bf_input.specs.Inputs.{IsReadingFault};
 ghost use Rattle.bf_input.specs.Moments.{IsNoMoment};
-ghost use Rattle.bf_backfills.specs.Commands.{HasNoMoment, HasUnmeantRun, MeanSeeds, MeansSeed};
-ghost use Rattle.bf_backfills.specs.inner.Named.{IsReadFor, IsUnmeant, MeansNamed, path_of};
+ghost use Rattle.bf_backfills.specs.Commands.{HasNoMoment, HasUnmeantRun, MeanSeeds, MeansRange, MeansSeed};
+ghost use Rattle.bf_backfills.specs.inner.Named.{IsFaultOfMeaning, IsReadFor, IsUnmeant, MeansNamed, path_of};
 
+use crate::range::range_of;
 use bf_command_fault::CommandFault;
-use bf_command_line::{ClearedAsked, SeedAsked};
+use bf_command_line::{ClearedAsked, RangeAsked, SeedAsked};
 use bf_commands::ToClear;
 use bf_dependents::Seed;
 use bf_disk::Source;
 use bf_input::{moment_of, read_seeds_bytes};
+use bf_planning::RunRange;
 use bf_value::{OutOfMemory, Text};
 use std::alloc::Global;
 
@@ -63,10 +65,7 @@ fn seeds_of(alloc: Global, asked: &[SeedAsked]) -> Result<Vec<Seed>, CommandFaul
 
 /// What a command line asks to clear. A fault where the run of a seed is no moment. A seeds file is only named, and
 /// not read.
-pub(crate) fn to_clear_asked(
-    alloc: Global,
-    asked: &ClearedAsked,
-) -> Result<UnreadToClear, CommandFault>
+fn to_clear_asked(alloc: Global, asked: &ClearedAsked) -> Result<UnreadToClear, CommandFault>
     ensures means { IfOk result (MeansNamed asked.now) }
     ensures bad { IfErr result (IsUnmeant (HasNoMoment asked.now)) }
 {
@@ -79,6 +78,28 @@ pub(crate) fn to_clear_asked(
         ClearedAsked::Failed => Ok(UnreadToClear::Failed),
         ClearedAsked::Nothing => Ok(UnreadToClear::Nothing),
     }
+}
+
+/// What a line means that names a range and what is to be cleared in it.
+#[derive(Drop)]
+pub(crate) struct Meant {
+    pub(crate) range: RunRange,
+    pub(crate) named: UnreadToClear,
+}
+
+/// What the texts of a line mean. A fault where one is no moment, or no days; the range's are looked at first.
+pub(crate) fn meaning_of(
+    alloc: Global,
+    range: &RangeAsked,
+    cleared: &ClearedAsked,
+) -> Result<Meant, CommandFault>
+    ensures range { IfOk result (λ meant. MeansRange range.now meant.range) }
+    ensures named { IfOk result (λ meant. MeansNamed cleared.now meant.named) }
+    ensures fault { IfErr result (IsFaultOfMeaning range.now cleared.now) }
+{
+    let range = range_of(range)?;
+    let named = to_clear_asked(alloc, cleared)?;
+    Ok(Meant { range, named })
 }
 
 /// What is to be cleared, with the bytes of the seeds file where one is named. Reads no other file. A fault where it

@@ -62,6 +62,5 @@ where
         launching_asked(&launcher, &logs),
         tells,
     );
-    let succeeded = write_run_report(&crew, &files, range, asked.journal, journals, out)?;
-    Ok(Status::of_runs(succeeded))
+    write_run_report(&crew, &files, range, asked.journal, journals, out).map(Status::of_runs)
 }

@@ -39,7 +39,7 @@ pub fn answer_single<RT: Starter + Screen + Threads + Wait + Clock + Sync, S: So
     let at = moment_of(asked.at.as_str())?;
     let files = read_files_with_table(alloc, asked.graph, asked.table, files)?;
     let graph = &files.graph;
-    let succeeded = run_single(
+    run_single(
         rt,
         alloc,
         &graph.graph,
@@ -47,6 +47,6 @@ pub fn answer_single<RT: Starter + Screen + Threads + Wait + Clock + Sync, S: So
         &files.table,
         at,
         out,
-    )?;
-    Ok(Status::of_runs(succeeded))
+    )
+    .map(Status::of_runs)
 }

@@ -32,9 +32,9 @@ IsPreparingFault files asked path seeds range fault =
     fault))
 
 -- so it is; or these have none, they can be read, and what is to be cleared, and the fault is that of the report's file
-abbrev pub IsFaultOfReading : Files → GraphAsked → Option (List ℕ) → UnreadToClear → RunRange
+abbrev pub IsFaultBeforeClearing : Files → GraphAsked → Option (List ℕ) → UnreadToClear → RunRange
     → List ℕ → CommandFault → Type 0
-IsFaultOfReading files asked path named range report fault =
+IsFaultBeforeClearing files asked path named range report fault =
     IsPreparingFault files asked path (path_of named) range fault
     ⊎ (AreReadable files (clear_paths asked path (path_of named))
     × IsOfBytes files asked path (λ graph zone table. IsReady graph zone table range)

@@ -1,7 +1,8 @@
 -- What a line names to be cleared.
-use Rattle.std.specs.Prelude.{◌≡◌, ℕ, List, IfSome, Option, Some, None, string_bytes}
+use Rattle.std.specs.Prelude.{◌≡◌, ◌⊎◌, ℕ, List, IfSome, Option, Some, None, string_bytes}
 use Rattle.bf_command_line.specs.declared.forms.ClearedAsked.{ClearedAsked}
 use Rattle.bf_command_line.specs.declared.forms.ClearedAsked.TheVariants as cleared
+use Rattle.bf_command_line.specs.declared.forms.RangeAsked.{RangeAsked}
 use Rattle.bf_command_fault.specs.declared.fault.CommandFault.{CommandFault}
 use Rattle.bf_command_fault.specs.declared.fault.CommandFault.TheVariants.{BadMoment, OutOfMemory}
 use Rattle.bf_commands.specs.declared.cleared.ToClear.{ToClear}
@@ -10,7 +11,8 @@ use Rattle.bf_disk.specs.Files.{Files}
 use Rattle.bf_disk.specs.Source.{IsWholeUpTo}
 use Rattle.bf_backfills.specs.declared.named.UnreadToClear.{UnreadToClear}
 use Rattle.bf_backfills.specs.declared.named.UnreadToClear.TheVariants as named
-use Rattle.bf_backfills.specs.Commands.{MeanSeeds}
+use Rattle.bf_planning.specs.declared.range.RunRange.{RunRange}
+use Rattle.bf_backfills.specs.Commands.{HasNoMoment, IsNoStarts, MeanSeeds, MeansRange}
 
 -- ---- before a file is read
 
@@ -32,6 +34,12 @@ abbrev pub IsUnmeant : Type 0 → CommandFault → Type 0
 IsUnmeant HasNone BadMoment = HasNone
 IsUnmeant HasNone OutOfMemory = Unit {0}
 IsUnmeant HasNone fault = ⊥
+
+-- the texts mean no range, or one of them no moment; or memory is wanting, and they mean a range
+abbrev pub IsFaultOfMeaning : RangeAsked → ClearedAsked → CommandFault → Type 0
+IsFaultOfMeaning range cleared BadMoment = IsNoStarts range.starts ⊎ HasNoMoment cleared
+IsFaultOfMeaning range cleared OutOfMemory = (meant : RunRange) × MeansRange range meant
+IsFaultOfMeaning range cleared fault = ⊥
 
 -- ---- and where it was read
 
