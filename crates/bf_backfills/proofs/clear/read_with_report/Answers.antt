@@ -10,9 +10,12 @@ returns-in_err-report-clause-fault g c =
     let said = ready.said in
     let path = string_bytes c.args.report in
     handed_on _ _ c.from_residual-in_err-report.ensures.1
-    (inr (ready.readable,
-    record { graph = said.graph; zone = said.zone; table = said.table; alike = said.alike; holds = record { dag = _; found = _; clocks = _; answers = _; prepared = said.holds } },
-    (c.in_ok-ready.ready.what, ready.what), subst (λ (f : Option (Option (List ℕ))). IsReportFault path f c.in_err-report.field-0.0) (ready.stays path) c.in_err-report.ensures.fault))
+    (inr (
+      ready.readable,
+      record { graph = said.graph; zone = said.zone; table = said.table; alike = said.alike; holds = record { dag = _; found = _; clocks = _; answers = _; prepared = said.holds } },
+      (c.in_ok-ready.ready.what, ready.what),
+      subst (λ (f : Option (Option (List ℕ))). IsReportFault path f c.in_err-report.field-0.0) (ready.stays path) c.in_err-report.ensures.fault,
+    ))
 
 pub returns-clause-report : goal.returns-clause-report
 returns-clause-report g c =
