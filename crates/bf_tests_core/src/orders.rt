@@ -1,10 +1,10 @@
 //! Orders of events: the report doesn't rest on them.
 use crate::steps::{Answered, End, TestStep, core_after};
-use bf_core::{Core, Illegal};
+use bf_core::{Ended, Illegal};
 use bf_device::Memory;
 use bf_plan::Plan;
-use bf_report::{report_of, write_report};
-use bf_tests_graphs::{epoch_run, job, plan_of};
+use bf_report::{Report, report_of, write_report};
+use bf_tests_graphs::{epoch_run, plan_of};
 use std::alloc::Global;
 use std::process::Abort;
 use std::test::Fail;
@@ -20,67 +20,73 @@ const REPORT: &str = "@backfill 2 d\n\
     z -1 upstream_failed 0 -\n\
     @end 1\n";
 
-/// The text of the report of a backfill over one run that has ended; empty where it hasn't.
-fn written(alloc: Global, core: Core<'_>) -> Result<Vec<u8>, Fail> {
-    let mut out = Memory::new(alloc);
+/// The report of a backfill over one run.
+fn report_over_run(alloc: Global, ended: &Ended<'_>) -> Result<Report, Fail> {
     let runs = epoch_run(alloc)?;
-    if let Ok(ended) = core.into_ended() {
-        if ended.run_states().len() == runs.count() {
-            let report = report_of(alloc, &runs, &ended)?;
-            write_report(alloc, &report, &mut out)?;
-        }
+    if ended.run_states().len() != runs.count() {
+        return Err(Fail::from("it has other runs"));
     }
-    Ok(out.into_vec())
+    Ok(report_of(alloc, &runs, ended)?)
 }
 
-fn reported_over(
+fn report_over(
     rt: &impl Abort,
     alloc: Global,
     plan: &Plan,
     steps: &[Answered],
-) -> Result<Vec<u8>, Fail> {
-    written(alloc, core_after(rt, alloc, plan, steps)?)
+) -> Result<Report, Fail> {
+    let core = core_after(rt, alloc, plan, steps)?;
+    let ended = core.into_ended().ok().ok_or("it has not ended")?;
+    report_over_run(alloc, &ended)
 }
 
 /// The report after these steps. It tells the whole ledger, by law `reports_tell_ledgers`.
-fn reported(rt: &impl Abort, alloc: Global, steps: &[Answered]) -> Result<Vec<u8>, Fail> {
+fn report_after(rt: &impl Abort, alloc: Global, steps: &[Answered]) -> Result<Report, Fail> {
     let plan = plan_of(alloc, JOIN)?;
-    reported_over(rt, alloc, &plan, steps)
+    report_over(rt, alloc, &plan, steps)
 }
+
+fn is_written(rt: &impl Abort, alloc: Global, report: &Report) -> Result<(), Fail> {
+    let mut out = Memory::new(alloc);
+    write_report(alloc, report, &mut out)?;
+    assert_eq!(rt; out.as_slice(), REPORT.as_bytes());
+    Ok(())
+}
+
+/// Requires the text of the report after these steps.
+fn is_reported(rt: &impl Abort, alloc: Global, steps: &[Answered]) -> Result<(), Fail> {
+    let report = report_after(rt, alloc, steps)?;
+    is_written(rt, alloc, &report)
+}
+
+static X_FIRST: [Answered; 10] = [
+    (TestStep::Open, Ok(())),
+    (TestStep::Settle(0, 0), Ok(())),
+    (TestStep::Settle(0, 1), Ok(())),
+    (TestStep::Begin(0, -1, 1), Ok(())),
+    (TestStep::Begin(1, -1, 1), Ok(())),
+    (TestStep::End(0, -1, 1, End::Skips), Ok(())),
+    (TestStep::Settle(0, 2), Err(Illegal::NotEnabled)),
+    (TestStep::End(1, -1, 1, End::Fails), Ok(())),
+    (TestStep::Settle(0, 2), Ok(())),
+    (TestStep::Close(0), Ok(())),
+];
+
+static Y_FIRST: [Answered; 10] = [
+    (TestStep::Open, Ok(())),
+    (TestStep::Settle(0, 1), Ok(())),
+    (TestStep::Begin(1, -1, 1), Ok(())),
+    (TestStep::Settle(0, 0), Ok(())),
+    (TestStep::End(1, -1, 1, End::Fails), Ok(())),
+    (TestStep::Settle(0, 2), Err(Illegal::NotEnabled)),
+    (TestStep::Begin(0, -1, 1), Ok(())),
+    (TestStep::End(0, -1, 1, End::Skips), Ok(())),
+    (TestStep::Settle(0, 2), Ok(())),
+    (TestStep::Close(0), Ok(())),
+];
 
 #[test]
 fn a_join_rests_on_no_order(rt: HostRuntime) -> Result<(), Fail> {
-    let x_first: [Answered; 10] = [
-        (TestStep::Open, Ok(())),
-        (TestStep::Settle(0, 0), Ok(())),
-        (TestStep::Settle(0, 1), Ok(())),
-        (TestStep::Begin(job(0, -1, 1)), Ok(())),
-        (TestStep::Begin(job(1, -1, 1)), Ok(())),
-        (TestStep::End(job(0, -1, 1), End::Skips), Ok(())),
-        (TestStep::Settle(0, 2), Err(Illegal::NotEnabled)),
-        (TestStep::End(job(1, -1, 1), End::Fails), Ok(())),
-        (TestStep::Settle(0, 2), Ok(())),
-        (TestStep::Close(0), Ok(())),
-    ];
-    let y_first: [Answered; 10] = [
-        (TestStep::Open, Ok(())),
-        (TestStep::Settle(0, 1), Ok(())),
-        (TestStep::Begin(job(1, -1, 1)), Ok(())),
-        (TestStep::Settle(0, 0), Ok(())),
-        (TestStep::End(job(1, -1, 1), End::Fails), Ok(())),
-        (TestStep::Settle(0, 2), Err(Illegal::NotEnabled)),
-        (TestStep::Begin(job(0, -1, 1)), Ok(())),
-        (TestStep::End(job(0, -1, 1), End::Skips), Ok(())),
-        (TestStep::Settle(0, 2), Ok(())),
-        (TestStep::Close(0), Ok(())),
-    ];
-    assert_eq!(rt;
-        reported(&rt, rt.alloc(), &x_first)?.as_slice(),
-        REPORT.as_bytes()
-    );
-    assert_eq!(rt;
-        reported(&rt, rt.alloc(), &y_first)?.as_slice(),
-        REPORT.as_bytes()
-    );
-    Ok(())
+    is_reported(&rt, rt.alloc(), &X_FIRST)?;
+    is_reported(&rt, rt.alloc(), &Y_FIRST)
 }

@@ -65,14 +65,14 @@ fn ending(x: End, y: End) -> [Answered; 10] {
     [
         (TestStep::Open, Ok(())),
         (TestStep::Settle(0, 0), Ok(())),
-        (TestStep::Begin(job(0, -1, 1)), Ok(())),
-        (TestStep::End(job(0, -1, 1), x), Ok(())),
+        (TestStep::Begin(0, -1, 1), Ok(())),
+        (TestStep::End(0, -1, 1, x), Ok(())),
         (TestStep::Settle(0, 1), Ok(())),
-        (TestStep::Begin(job(1, -1, 1)), Ok(())),
-        (TestStep::End(job(1, -1, 1), y), Ok(())),
+        (TestStep::Begin(1, -1, 1), Ok(())),
+        (TestStep::End(1, -1, 1, y), Ok(())),
         (TestStep::Settle(0, 2), Ok(())),
-        (TestStep::Begin(job(2, -1, 1)), Ok(())),
-        (TestStep::End(job(2, -1, 1), End::Succeeds), Ok(())),
+        (TestStep::Begin(2, -1, 1), Ok(())),
+        (TestStep::End(2, -1, 1, End::Succeeds), Ok(())),
     ]
 }
 
@@ -89,29 +89,34 @@ fn nothing_is_pulled_from_a_failure_and_from_a_skip(rt: HostRuntime) -> Result<(
     is_given(&rt, rt.alloc(), TWO, &steps, job(2, -1, 1), &[None, None])
 }
 
+static EXPANDED_STEPS: [Answered; 15] = [
+    (TestStep::Open, Ok(())),
+    (TestStep::Settle(0, 0), Ok(())),
+    (TestStep::Begin(0, -1, 1), Ok(())),
+    (TestStep::End(0, -1, 1, End::PushesList(&[3, 1, 2])), Ok(())),
+    (TestStep::Expand(0, 1), Ok(())),
+    (TestStep::Begin(1, 0, 1), Ok(())),
+    (TestStep::Begin(1, 1, 1), Ok(())),
+    (TestStep::Begin(1, 2, 1), Ok(())),
+    (TestStep::End(1, 2, 1, End::Pushes(2)), Ok(())),
+    (TestStep::End(1, 0, 1, End::Pushes(3)), Ok(())),
+    (TestStep::End(1, 1, 1, End::Succeeds), Ok(())),
+    (TestStep::Settle(0, 2), Ok(())),
+    (TestStep::Begin(2, -1, 1), Ok(())),
+    (TestStep::End(2, -1, 1, End::Succeeds), Ok(())),
+    (TestStep::Close(0), Ok(())),
+];
+
 // The instances end in the order 2, 0, 1, and the second pushes nothing.
 #[test]
 fn what_instances_pushed_is_pulled_by_map_index(rt: HostRuntime) -> Result<(), Fail> {
-    let steps: [Answered; 15] = [
-        (TestStep::Open, Ok(())),
-        (TestStep::Settle(0, 0), Ok(())),
-        (TestStep::Begin(job(0, -1, 1)), Ok(())),
-        (
-            TestStep::End(job(0, -1, 1), End::PushesList(&[3, 1, 2])),
-            Ok(()),
-        ),
-        (TestStep::Expand(0, 1), Ok(())),
-        (TestStep::Begin(job(1, 0, 1)), Ok(())),
-        (TestStep::Begin(job(1, 1, 1)), Ok(())),
-        (TestStep::Begin(job(1, 2, 1)), Ok(())),
-        (TestStep::End(job(1, 2, 1), End::Pushes(2)), Ok(())),
-        (TestStep::End(job(1, 0, 1), End::Pushes(3)), Ok(())),
-        (TestStep::End(job(1, 1, 1), End::Succeeds), Ok(())),
-        (TestStep::Settle(0, 2), Ok(())),
-        (TestStep::Begin(job(2, -1, 1)), Ok(())),
-        (TestStep::End(job(2, -1, 1), End::Succeeds), Ok(())),
-        (TestStep::Close(0), Ok(())),
-    ];
     let pulled = [Some(list_of(rt.alloc(), &[3, 2])?)];
-    is_given(&rt, rt.alloc(), EXPANDED, &steps, job(2, -1, 1), &pulled)
+    is_given(
+        &rt,
+        rt.alloc(),
+        EXPANDED,
+        &EXPANDED_STEPS,
+        job(2, -1, 1),
+        &pulled,
+    )
 }

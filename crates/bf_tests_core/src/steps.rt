@@ -1,9 +1,9 @@
 //! Cores, driven by hand over one run.
 use bf_core::{Core, Event, Illegal};
 use bf_plan::Plan;
-use bf_tests_graphs::{epoch_run, plan_of};
+use bf_tests_graphs::{epoch_run, job, plan_of};
 use bf_try::Outcome;
-use bf_value::{JobName, OutOfMemory, Values, Xval};
+use bf_value::{OutOfMemory, Values, Xval};
 use std::alloc::Global;
 use std::process::Abort;
 use std::test::Fail;
@@ -19,14 +19,15 @@ pub enum End {
     Skips,
 }
 
-/// An event. It is settled and expanded by run and task, and closed by run.
+/// An event. It is settled and expanded by run and task, begun and ended by task, map index and try in the first run, and
+/// closed by run.
 #[derive(Clone, Copy)]
 pub enum TestStep {
     Open,
     Settle(u32, u32),
     Expand(u32, u32),
-    Begin(JobName),
-    End(JobName, End),
+    Begin(u32, i32, u32),
+    End(u32, i32, u32, End),
     Close(u32),
     Tick(i64),
 }
@@ -58,8 +59,11 @@ fn event_of(alloc: Global, step: TestStep) -> Result<Event, OutOfMemory> {
         TestStep::Open => Ok(Event::Open),
         TestStep::Settle(run, task) => Ok(Event::Settle { run, task }),
         TestStep::Expand(run, task) => Ok(Event::Expand { run, task }),
-        TestStep::Begin(name) => Ok(Event::Begin(name)),
-        TestStep::End(name, end) => Ok(Event::End(name, outcome_of(alloc, end)?)),
+        TestStep::Begin(task, index, attempt) => Ok(Event::Begin(job(task, index, attempt))),
+        TestStep::End(task, index, attempt, end) => Ok(Event::End(
+            job(task, index, attempt),
+            outcome_of(alloc, end)?,
+        )),
         TestStep::Close(run) => Ok(Event::Close { run }),
         TestStep::Tick(moment) => Ok(Event::Tick { moment }),
     }
@@ -79,6 +83,12 @@ pub fn take(
     Ok(())
 }
 
+/// The core of a backfill of one run, before its first event.
+pub fn core_of<'a>(alloc: Global, plan: &'a Plan) -> Result<Core<'a>, Fail> {
+    let runs = epoch_run(alloc)?;
+    Ok(Core::new(alloc, plan, &runs)?)
+}
+
 /// The core of a backfill of one run, after these steps.
 pub fn core_after<'a>(
     rt: &impl Abort,
@@ -86,14 +96,18 @@ pub fn core_after<'a>(
     plan: &'a Plan,
     steps: &[Answered],
 ) -> Result<Core<'a>, Fail> {
-    let mut core = Core::new(alloc, plan, &epoch_run(alloc)?)?;
+    let mut core = core_of(alloc, plan)?;
     take(rt, alloc, &mut core, steps)?;
     Ok(core)
+}
+
+fn walk_over(rt: &impl Abort, alloc: Global, plan: &Plan, steps: &[Answered]) -> Result<(), Fail> {
+    let mut core = core_of(alloc, plan)?;
+    take(rt, alloc, &mut core, steps)
 }
 
 /// Takes the steps from the start of a run of a graph.
 pub fn walk(rt: &impl Abort, alloc: Global, graph: &str, steps: &[Answered]) -> Result<(), Fail> {
     let plan = plan_of(alloc, graph)?;
-    let _core = core_after(rt, alloc, &plan, steps)?;
-    Ok(())
+    walk_over(rt, alloc, &plan, steps)
 }

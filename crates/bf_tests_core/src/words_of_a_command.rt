@@ -6,6 +6,7 @@ use bf_words::{JobContext, words};
 use bf_xcom::{Given, Pulled};
 use jiff::Timestamp;
 use std::alloc::Global;
+use std::process::Abort;
 use std::test::Fail;
 
 /// A text of the command, each variable of the context, each pull, and the item.
@@ -72,12 +73,22 @@ fn words_given(alloc: Global, given: &Given) -> Result<Vec<String>, OutOfMemory>
     Ok(words(alloc, &command, &context, given)?)
 }
 
-#[test]
-fn each_kind_of_word_has_its_text(rt: HostRuntime) -> Result<(), Fail> {
-    let found = words_given(rt.alloc(), &given(rt.alloc())?)?;
+/// The words of the command.
+fn words_found(alloc: Global) -> Result<Vec<String>, OutOfMemory> {
+    let given = given(alloc)?;
+    words_given(alloc, &given)
+}
+
+fn are_the_words(rt: &impl Abort, found: &[String]) {
     assert_eq!(rt; found.len(), WORDS.len());
     for (word, text) in found.iter().zip(&WORDS) {
         assert_eq!(rt; word.as_str(), *text);
     }
+}
+
+#[test]
+fn each_kind_of_word_has_its_text(rt: HostRuntime) -> Result<(), Fail> {
+    let found = words_found(rt.alloc())?;
+    are_the_words(&rt, found.as_slice());
     Ok(())
 }
