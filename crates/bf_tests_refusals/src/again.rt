@@ -58,7 +58,7 @@ pub fn plan_again(alloc: Global, graph: GraphCase) -> Result<Plan, RefusalFault>
     if let Ok(plan) = plan_of(alloc, graph.file()) {
         return Ok(plan);
     }
-    plan_of(alloc, graph.file()).map_err(|_| RefusalFault::Twice)
+    plan_of(alloc, graph.file()).ok().ok_or(RefusalFault::Twice)
 }
 
 /// The runs of so many days.
@@ -83,7 +83,7 @@ pub fn scheduler_again<'a>(
     if let Ok(scheduler) = scheduler(alloc, plan, runs) {
         return Ok(scheduler);
     }
-    scheduler(alloc, plan, runs).map_err(|_| RefusalFault::Twice)
+    scheduler(alloc, plan, runs).ok().ok_or(RefusalFault::Twice)
 }
 
 /// What comes next.
@@ -93,7 +93,7 @@ pub fn next_again(scheduler: &mut Scheduler<'_>) -> Result<Next, RefusalFault> {
         return Ok(next);
     }
     is_still(scheduler, before)?;
-    scheduler.next().map_err(|_| RefusalFault::Twice)
+    scheduler.next().ok().ok_or(RefusalFault::Twice)
 }
 
 /// Lets the clock come to a moment.
@@ -103,20 +103,30 @@ pub fn tick_again(scheduler: &mut Scheduler<'_>, moment: i64) -> Result<bool, Re
         return Ok(came);
     }
     is_still(scheduler, before)?;
-    scheduler.tick(moment).map_err(|_| RefusalFault::Twice)
+    scheduler.tick(moment).ok().ok_or(RefusalFault::Twice)
+}
+
+/// Whether an event that was refused may come again: memory was wanting, and the backfill is as it was seen.
+fn may_come_again(
+    scheduler: &Scheduler<'_>,
+    before: Seen,
+    fault: Illegal,
+) -> Result<(), RefusalFault> {
+    if fault == Illegal::OutOfMemory {
+        is_still(scheduler, before)
+    } else {
+        Err(RefusalFault::Stopped)
+    }
 }
 
 /// Ends a try.
 pub fn finish_again(scheduler: &mut Scheduler<'_>, done: Done) -> Result<(), RefusalFault> {
     let before = see(scheduler);
-    match scheduler.finish(done) {
-        Ok(()) => Ok(()),
-        Err((done, Illegal::OutOfMemory)) => {
-            is_still(scheduler, before)?;
-            scheduler.finish(done).map_err(|_| RefusalFault::Twice)
-        }
-        Err(_) => Err(RefusalFault::Stopped),
-    }
+    let Err((done, fault)) = scheduler.finish(done) else {
+        return Ok(());
+    };
+    may_come_again(scheduler, before, fault)?;
+    scheduler.finish(done).ok().ok_or(RefusalFault::Twice)
 }
 
 /// The answer of a try.
@@ -124,5 +134,5 @@ pub fn raw_again(alloc: Global, graph: GraphCase, name: JobName) -> Result<Raw, 
     if let Ok(raw) = graph.raw(alloc, name) {
         return Ok(raw);
     }
-    graph.raw(alloc, name).map_err(|_| RefusalFault::Twice)
+    graph.raw(alloc, name).ok().ok_or(RefusalFault::Twice)
 }

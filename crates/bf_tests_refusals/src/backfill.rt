@@ -65,7 +65,7 @@ fn ended_of<'p>(
 ) -> Result<Ended<'p>, RefusalFault> {
     let mut scheduler = scheduler_again(alloc, plan, runs)?;
     all_turns(alloc, graph, &mut scheduler)?;
-    scheduler.into_ended().map_err(|_| RefusalFault::Stopped)
+    scheduler.into_ended().ok().ok_or(RefusalFault::Stopped)
 }
 
 /// The end of the backfill of a plan over so many days, whose journal comes again.

@@ -14,10 +14,23 @@ use crate::again::{RefusalFault, plan_again};
 use crate::backfill::backfill;
 use crate::graphs::GraphCase;
 use crate::shown::show;
+use bf_plan::Plan;
 use std::alloc::Global;
 use std::process::ExitCode;
 
-/// Prints the events of the backfill of a graph over so many days, and says whether all were.
+/// Prints the events of the backfill of a plan over so many days, and says whether all were.
+fn tell_over(
+    rt: &HostRuntime,
+    alloc: Global,
+    graph: GraphCase,
+    plan: &Plan,
+    days: u32,
+) -> Result<bool, RefusalFault> {
+    let ended = backfill(alloc, graph, plan, days)?;
+    Ok(show(rt, ended.journal()))
+}
+
+/// The same of a graph.
 fn tell_of(
     rt: &HostRuntime,
     alloc: Global,
@@ -25,8 +38,7 @@ fn tell_of(
     days: u32,
 ) -> Result<bool, RefusalFault> {
     let plan = plan_again(alloc, graph)?;
-    let ended = backfill(alloc, graph, &plan, days)?;
-    Ok(show(rt, ended.journal()))
+    tell_over(rt, alloc, graph, &plan, days)
 }
 
 /// The same of both.

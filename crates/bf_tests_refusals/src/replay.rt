@@ -10,28 +10,28 @@ fn core_again<'a>(alloc: Global, plan: &'a Plan, runs: &Runs) -> Result<Core<'a>
     if let Ok(core) = Core::new(alloc, plan, runs) {
         return Ok(core);
     }
-    Core::new(alloc, plan, runs).map_err(|_| RefusalFault::Twice)
+    Core::new(alloc, plan, runs).ok().ok_or(RefusalFault::Twice)
 }
 
 fn copy_again(alloc: Global, event: &Event) -> Result<Event, RefusalFault> {
     if let Ok(event) = event.copy(alloc) {
         return Ok(event);
     }
-    event.copy(alloc).map_err(|_| RefusalFault::Twice)
+    event.copy(alloc).ok().ok_or(RefusalFault::Twice)
 }
 
 /// A journal, and two cores on its way.
 #[derive(Drop)]
 struct Cores<'a, 'b> {
     journal: &'b [Event],
-    core: Core<'a>,
+    core: &'b mut Core<'a>,
     /// It is an event behind while the core takes one.
-    behind: Core<'a>,
+    behind: &'b mut Core<'a>,
 }
 
 impl<'a, 'b> Cores<'a, 'b> {
     fn are_level(&self) -> bool {
-        is_same_core(&self.core, &self.behind, self.journal)
+        is_same_core(self.core, self.behind, self.journal)
     }
 
     /// Lets an event come to the core. Where memory is wanting, nothing of it has changed, and it takes the event when that
@@ -45,7 +45,8 @@ impl<'a, 'b> Cores<'a, 'b> {
                 }
                 self.core
                     .apply(copy_again(alloc, event)?)
-                    .map_err(|_| RefusalFault::Twice)
+                    .ok()
+                    .ok_or(RefusalFault::Twice)
             }
             Err(_) => Err(RefusalFault::Stopped),
         }
@@ -57,7 +58,8 @@ impl<'a, 'b> Cores<'a, 'b> {
         }
         self.behind
             .apply(copy_again(alloc, event)?)
-            .map_err(|_| RefusalFault::Twice)
+            .ok()
+            .ok_or(RefusalFault::Twice)
     }
 
     /// Lets an event come to both. Between them it is seen.
@@ -87,20 +89,21 @@ impl<'a, 'b> Cores<'a, 'b> {
     }
 }
 
-/// Both cores, before the first event of a journal.
-fn both<'a, 'b>(
+/// Lets each event of a journal come to a core that has taken none, and to another.
+fn replay_to<'a>(
     alloc: Global,
     plan: &'a Plan,
     runs: &Runs,
-    journal: &'b [Event],
-) -> Result<Cores<'a, 'b>, RefusalFault> {
-    let core = core_again(alloc, plan, runs)?;
-    let behind = core_again(alloc, plan, runs)?;
-    Ok(Cores {
+    journal: &[Event],
+    core: &mut Core<'a>,
+) -> Result<(), RefusalFault> {
+    let mut behind = core_again(alloc, plan, runs)?;
+    let mut cores = Cores {
         journal,
         core,
-        behind,
-    })
+        behind: &mut behind,
+    };
+    cores.replay(alloc)
 }
 
 /// Lets each event of a journal come, up to the end of the backfill.
@@ -110,5 +113,6 @@ pub fn replay(
     runs: &Runs,
     journal: &[Event],
 ) -> Result<(), RefusalFault> {
-    both(alloc, plan, runs, journal)?.replay(alloc)
+    let mut core = core_again(alloc, plan, runs)?;
+    replay_to(alloc, plan, runs, journal, &mut core)
 }
