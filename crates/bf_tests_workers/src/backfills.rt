@@ -20,15 +20,19 @@ pub struct Told {
     pub begun: Vec<JobName>,
 }
 
+fn told_by(alloc: Global, ended: &Ended<'_>) -> Result<Told, OutOfMemory> {
+    Ok(Told {
+        run_states: ended.run_states().to_vec(alloc)?,
+        begun: begun(alloc, ended.journal())?,
+    })
+}
+
 fn told_of(
     alloc: Global,
     ended: Result<Ended<'_>, BackfillFault>,
 ) -> Result<Result<Told, BackfillFault>, Fail> {
     match ended {
-        Ok(ended) => Ok(Ok(Told {
-            run_states: ended.run_states().to_vec(alloc)?,
-            begun: begun(alloc, ended.journal())?,
-        })),
+        Ok(ended) => Ok(Ok(told_by(alloc, &ended)?)),
         Err(fault) => Ok(Err(fault)),
     }
 }
@@ -41,9 +45,9 @@ pub fn backfill<W: Threads + Wait + Sync, R: TaskRunner + Sync>(
     workers: u32,
     runner: &R,
 ) -> Result<Result<Told, BackfillFault>, Fail> {
-    let plan = plan_of(alloc, graph)?;
-    let runs = epoch_run(alloc)?;
     let workers = Workers::new(workers).ok_or("there can't be so many workers")?;
+    let runs = epoch_run(alloc)?;
+    let plan = plan_of(alloc, graph)?;
     let mut watch = Watch {
         clock: Jump::new(),
         observer: Silent,
@@ -58,8 +62,8 @@ pub fn alone<R: TaskRunner>(
     graph: &str,
     runner: &R,
 ) -> Result<Result<Told, BackfillFault>, Fail> {
-    let plan = plan_of(alloc, graph)?;
     let runs = epoch_run(alloc)?;
+    let plan = plan_of(alloc, graph)?;
     told_of(alloc, one_by_one(alloc, &plan, &runs, runner))
 }
 
