@@ -1,5 +1,5 @@
 //! Devices that halt: those of this project, and readers and writers of std that raise errors.
-use crate::reports::{FULL, ONE};
+use crate::reports::{FULL, ONE, report_of};
 use bf_device::{Bytes, Cause, Halt, Halting, Input, Memory, Output, WriteFault};
 use bf_process::line_of;
 use bf_report::{Report, write_report};
@@ -7,6 +7,7 @@ use bf_report_reader::{ReportFault, read_report};
 use bf_try::Line;
 use std::alloc::Global;
 use std::io;
+use std::process::Abort;
 use std::test::Fail;
 
 /// Why a device gives up after so many bytes.
@@ -17,19 +18,18 @@ const fn halted_after(sent: u64) -> Result<(), WriteFault> {
     })
 }
 
-fn report_of(alloc: Global, text: &str) -> Result<Report, Fail> {
-    let mut device = Bytes::new(text.as_bytes().to_vec(alloc)?);
-    Ok(read_report(alloc, &mut device)?)
+/// The answer of a write, and what was written.
+type Written = (Result<(), WriteFault>, Vec<u8>);
+
+/// Requires this answer of a write, and that these bytes were written.
+fn has_written(rt: &impl Abort, found: Written, wanted: Result<(), WriteFault>, bytes: &[u8]) {
+    let (answer, written) = found;
+    assert_eq!(rt; answer, wanted);
+    assert_eq!(rt; written.as_slice(), bytes);
 }
 
-/// Writes a report to a device that takes one byte a call and halts at some. Gives the answer, and what was written.
-fn write_halting(
-    alloc: Global,
-    report: &Report,
-    halt: Halt,
-    first: usize,
-    times: u64,
-) -> (Result<(), WriteFault>, Vec<u8>) {
+/// Writes a report to a device that takes one byte a call and halts at some.
+fn write_halting(alloc: Global, report: &Report, halt: Halt, first: usize, times: u64) -> Written {
     let mut out = Halting::new(Memory::new(alloc), halt, first as u64, times);
     let answer = write_report(alloc, report, &mut out);
     (answer, out.into_inner().into_vec())
@@ -53,9 +53,13 @@ fn a_write_that_halts_for_good_is_a_fault(rt: HostRuntime) -> Result<(), Fail> {
     let report = report_of(rt.alloc(), ONE)?;
     for (halt, times) in [(Halt::Failed, 1), (Halt::Again, 1_001)] {
         for call in 0..ONE.len() {
-            let (answer, written) = write_halting(rt.alloc(), &report, halt, call, times);
-            assert_eq!(rt; answer, halted_after(call as u64));
-            assert_eq!(rt; written.as_slice(), &ONE.as_bytes()[..call]);
+            let found = write_halting(rt.alloc(), &report, halt, call, times);
+            has_written(
+                &rt,
+                found,
+                halted_after(call as u64),
+                &ONE.as_bytes()[..call],
+            );
         }
     }
     Ok(())
@@ -65,9 +69,8 @@ fn a_write_that_halts_for_good_is_a_fault(rt: HostRuntime) -> Result<(), Fail> {
 fn a_thousand_interruptions_of_a_write_are_nothing(rt: HostRuntime) -> Result<(), Fail> {
     let report = report_of(rt.alloc(), ONE)?;
     for call in 0..ONE.len() {
-        let (answer, written) = write_halting(rt.alloc(), &report, Halt::Again, call, 1_000);
-        assert_eq!(rt; answer, Ok(()));
-        assert_eq!(rt; written.as_slice(), ONE.as_bytes());
+        let found = write_halting(rt.alloc(), &report, Halt::Again, call, 1_000);
+        has_written(&rt, found, Ok(()), ONE.as_bytes());
     }
     Ok(())
 }
@@ -213,12 +216,8 @@ fn read_raising(alloc: Global, errors: Errors) -> Option<ReportFault> {
     read_report(alloc, &mut device).err()
 }
 
-/// Writes a report to a writer that raises errors. Gives the answer, and what was written.
-fn write_raising(
-    alloc: Global,
-    report: &Report,
-    errors: Errors,
-) -> (Result<(), WriteFault>, Vec<u8>) {
+/// Writes a report to a writer that raises errors.
+fn write_raising(alloc: Global, report: &Report, errors: Errors) -> Written {
     let bytes = Vec::new(alloc);
     let mut out = Output::new(RaisingWriter { errors, bytes });
     let answer = write_report(alloc, report, &mut out);
@@ -239,29 +238,36 @@ fn a_reader_of_std_is_read_on_after_interruptions(rt: HostRuntime) {
 fn a_writer_of_std_is_written_on_after_interruptions(rt: HostRuntime) -> Result<(), Fail> {
     let report = report_of(rt.alloc(), FULL)?;
     for &(kind, left, goes_on) in &ERRORS {
-        let (answer, written) = write_raising(rt.alloc(), &report, Errors { kind, left });
+        let found = write_raising(rt.alloc(), &report, Errors { kind, left });
         let (wanted, text) = if goes_on {
             (Ok(()), FULL)
         } else {
             (halted_after(0), "")
         };
-        assert_eq!(rt; answer, wanted);
-        assert_eq!(rt; written.as_slice(), text.as_bytes());
+        has_written(&rt, found, wanted, text.as_bytes());
     }
     Ok(())
+}
+
+/// Writes a report to a slice that has room for so many bytes.
+fn write_to_room(alloc: Global, report: &Report, room: usize) -> Result<Written, Fail> {
+    let mut bytes = vec![in alloc; b'.'; room]?;
+    let mut out = Output::new(bytes.as_mut_slice());
+    let answer = write_report(alloc, report, &mut out);
+    Ok((answer, bytes))
 }
 
 #[test]
 fn a_writer_of_std_that_takes_nothing_is_a_fault(rt: HostRuntime) -> Result<(), Fail> {
     let report = report_of(rt.alloc(), ONE)?;
     for room in 0..ONE.len() {
-        let mut bytes = vec![in rt.alloc(); b'.'; room]?;
-        let mut out = Output::new(bytes.as_mut_slice());
-        assert_eq!(rt;
-            write_report(rt.alloc(), &report, &mut out),
-            halted_after(room as u64)
+        let found = write_to_room(rt.alloc(), &report, room)?;
+        has_written(
+            &rt,
+            found,
+            halted_after(room as u64),
+            &ONE.as_bytes()[..room],
         );
-        assert_eq!(rt; bytes.as_slice(), &ONE.as_bytes()[..room]);
     }
     Ok(())
 }

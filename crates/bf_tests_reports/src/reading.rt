@@ -189,8 +189,7 @@ fn each_beginning_is_truncated(rt: HostRuntime) -> Result<(), Fail> {
 #[test]
 fn a_byte_behind_the_end_is_a_bad_line(rt: HostRuntime) -> Result<(), Fail> {
     for count in [1, 70_001] {
-        let mut bytes = ONE.as_bytes().to_vec(rt.alloc())?;
-        bytes.resize(ONE.len() + count, b' ')?;
+        let bytes = lengthened(rt.alloc(), ONE, (b' ', count), b"")?;
         assert_eq!(rt;
             fault_of(rt.alloc(), &bytes)?,
             Some(ReportFault::BadLine(5))

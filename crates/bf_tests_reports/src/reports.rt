@@ -1,6 +1,6 @@
 //! Reports: their text, and the words of what is told of a bad one.
 use bf_device::{Bytes, Memory};
-use bf_report::write_report;
+use bf_report::{Report, write_report};
 use bf_report_reader::{ReportFault, read_report};
 use std::alloc::Global;
 use std::test::Fail;
@@ -72,13 +72,23 @@ const GIVEN: &str = "@backfill 2 d\n\
     @pull src 0\n\
     @end 2\n";
 
+/// The report of a text.
+pub fn report_of(alloc: Global, text: &str) -> Result<Report, Fail> {
+    let mut device = Bytes::new(text.as_bytes().to_vec(alloc)?);
+    Ok(read_report(alloc, &mut device)?)
+}
+
+/// The text of a report.
+fn text_of(alloc: Global, report: &Report) -> Result<Vec<u8>, Fail> {
+    let mut out = Memory::new(alloc);
+    write_report(alloc, report, &mut out)?;
+    Ok(out.into_vec())
+}
+
 /// Reads a report and writes it again.
 fn written_again(alloc: Global, text: &str) -> Result<Vec<u8>, Fail> {
-    let mut device = Bytes::new(text.as_bytes().to_vec(alloc)?);
-    let report = read_report(alloc, &mut device)?;
-    let mut out = Memory::new(alloc);
-    write_report(alloc, &report, &mut out)?;
-    Ok(out.into_vec())
+    let report = report_of(alloc, text)?;
+    text_of(alloc, &report)
 }
 
 #[test]
