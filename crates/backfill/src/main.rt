@@ -16,8 +16,8 @@ const NOT_UTF8: &str = "error: invalid UTF-8 was detected in one or more argumen
 
 For more information, try '--help'.";
 
-/// Answers the command line with the machine's files, clocks, threads and programs, and ends with the answer's
-/// status.
+/// Answers the command line with the machine's files, clocks, threads and programs, and ends with the exit status that
+/// this gives. After a refusal, tells what is wrong with the graph where `check --explain` asks for it.
 fn main(rt: HostRuntime) -> ExitCode {
     let words = match words(&rt) {
         Ok(words) => words,
@@ -46,12 +46,14 @@ fn main(rt: HostRuntime) -> ExitCode {
     ExitCode::from(status)
 }
 
-/// The words of the command line, the program's own name first. An error where one isn't UTF-8 or memory is wanting.
+/// Reads the words of the command line, the program's own name first. An error where one isn't UTF-8, or at want of
+/// memory.
 fn words(rt: &HostRuntime) -> io::Result<Vec<String>> {
     Ok(env::args(rt)?.collect(rt.alloc())?)
 }
 
-/// What a grid on standard output looks like: whether that is a terminal, and what COLUMNS, NO_COLOR and TERM say.
+/// Answers how a grid looks on standard output: by whether that is a terminal, and by COLUMNS, NO_COLOR and TERM. A
+/// variable that can't be read counts as not set.
 fn canvas(rt: &HostRuntime) -> Canvas {
     let columns = env::var(rt, "COLUMNS").ok();
     let no_color = env::var(rt, "NO_COLOR").ok();
@@ -64,8 +66,8 @@ fn canvas(rt: &HostRuntime) -> Canvas {
     )
 }
 
-/// Writes to standard error why the words can't be read, and gives the exit status: refused where one isn't UTF-8,
-/// else a fault. Where that fails, nothing is left to say so on.
+/// Writes to standard error why the words can't be read, and gives the exit status: `Refused` where one isn't UTF-8,
+/// else `Fault`. Ignores a failed write.
 fn tell_unreadable_words(rt: &HostRuntime, error: &io::Error) -> Status {
     if error.kind() == io::ErrorKind::InvalidData {
         let _ = eprintln!(rt; "{NOT_UTF8}");

@@ -14,14 +14,14 @@ use bf_value::{OutOfMemory, Xval, text_of};
 use bf_xcom::Outcome;
 use std::alloc::Global;
 
-/// The status of a failed try.
+/// The exit status of a try that failed.
 const FAILED: u8 = 1;
 
-/// The status of a skipped one.
+/// The exit status of a try that skipped its instance.
 const SKIPPED: u8 = 99;
 
-/// An instance: the start of its run as a report spells it, the id of its task, and its map index, where that is
-/// expanded.
+/// An instance, by the start of its run as a report writes it, the id of its task, and its map index, None where the
+/// task isn't expanded.
 #[derive(Clone, Copy)]
 pub(crate) struct InstanceName<'a> {
     pub run: &'a str,
@@ -29,7 +29,7 @@ pub(crate) struct InstanceName<'a> {
     pub index: Option<usize>,
 }
 
-/// Adds a map index in decimal, -1 for None.
+/// Adds a map index in decimal; -1 for None.
 fn push_index(text: &mut String, index: Option<usize>) -> Result<(), OutOfMemory>
     ensures { OnOk result (string_bytes text.new ≡ string_bytes text.old
         ++ number_text (of_integer (number_of index))) }
@@ -41,8 +41,8 @@ fn push_index(text: &mut String, index: Option<usize>) -> Result<(), OutOfMemory
     Ok(())
 }
 
-/// Adds the beginning of the entry of a try, `attempt` from 1: a comma, a line feed, and the members that name the
-/// try. The object stays open.
+/// Adds the beginning of the entry of try `attempt`, from 1: a comma, a line feed, and the members that name the try.
+/// The JSON object stays open.
 fn push_entry_start(
     alloc: Global,
     text: &mut String,
@@ -65,7 +65,7 @@ fn push_entry_start(
     Ok(())
 }
 
-/// Adds the entry of a try, `attempt` from 1, that ended with this exit status, which isn't 0.
+/// Adds the entry of try `attempt`, from 1, that ended with this exit status, which isn't 0.
 fn push_status_entry(
     alloc: Global,
     text: &mut String,
@@ -85,7 +85,7 @@ fn push_status_entry(
     Ok(())
 }
 
-/// Adds the entry of a try, `attempt` from 1, that succeeded and pushed a value.
+/// Adds the entry of try `attempt`, from 1, that succeeded and pushed this value.
 fn push_value_entry(
     alloc: Global,
     text: &mut String,
@@ -104,7 +104,7 @@ fn push_value_entry(
     Ok(())
 }
 
-/// Adds the entry of a try, `attempt` from 1, that failed, with the exit status 1.
+/// Adds the entry of try `attempt`, from 1, that failed: it has the exit status 1.
 pub(crate) fn push_failed_entry(
     alloc: Global,
     text: &mut String,
@@ -118,8 +118,8 @@ pub(crate) fn push_failed_entry(
     push_status_entry(alloc, text, name, attempt, FAILED)
 }
 
-/// Adds the entry by which a try, `attempt` from 1, ends with this outcome; nothing for a success that pushed
-/// nothing, as a try without an entry ends so.
+/// Adds the entry by which try `attempt`, from 1, ends with this outcome; adds nothing for a success that pushed
+/// nothing, since a try without an entry ends so.
 pub(crate) fn push_outcome_entry(
     alloc: Global,
     text: &mut String,
@@ -132,8 +132,10 @@ pub(crate) fn push_outcome_entry(
         attempt outcome.now)) }
 {
     match outcome {
-        Outcome::Success(None) => Ok(()),
-        Outcome::Success(Some(value)) => push_value_entry(alloc, text, name, attempt, value),
+        Outcome::Success(pushed) => match pushed.get() {
+            Some(value) => push_value_entry(alloc, text, name, attempt, value),
+            None => Ok(()),
+        },
         Outcome::Failed => push_failed_entry(alloc, text, name, attempt),
         Outcome::Skipped => push_status_entry(alloc, text, name, attempt, SKIPPED),
     }

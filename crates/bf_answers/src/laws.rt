@@ -25,7 +25,8 @@ ghost use Rattle.bf_answers.specs.TableText.{answers_text};
 
 use bf_moment::{long_form_is_what_is_written, moments_differ_in_text};
 
-/// What is written of a report that can be read is a table of exactly its entries, where it isn't too long for one.
+/// A law: the table written of a report that can be read is read back with exactly its entries, where it isn't longer
+/// than a table may be.
 pub fn tables_are_read_back()
     ensures { (report : Report) → IsShownReport report
         → length (answers_text report) ≤ longest_table
@@ -34,7 +35,8 @@ pub fn tables_are_read_back()
     long_form_is_what_is_written();
 }
 
-/// Over the table of a report each try in the report ends as it says, where the try's task can end so.
+/// A law: where a report has the graph's tasks and these data intervals, each of its tries, answered from its table,
+/// ends as the report says, as far as the try's task can end so.
 pub fn tries_end_as_told()
     ensures { (dag : Dag) (intervals : List Interval) (report : Report)
         → IsShownReport report
@@ -50,7 +52,8 @@ pub fn tries_end_as_told()
     moments_differ_in_text();
 }
 
-/// A backfill over the table of a report of the same plan and data intervals has that report.
+/// A law: a backfill of the same plan and data intervals whose tries are answered from the table of a report ends with
+/// that report.
 pub fn reports_are_made_again()
     ensures { (dag : Dag) → IsSound dag
         → (intervals : List Interval) (was again : FinMap.FinMap name_cmp Entry)

@@ -11,7 +11,7 @@ use bf_report::{InstanceReport, Report, RunReport, TaskReport};
 use bf_value::{OutOfMemory, Text};
 use std::alloc::Global;
 
-/// Adds an entry for each of an instance's `tries` but the last; these failed.
+/// Adds an entry for each of an instance's `tries` but the last, since all of these failed.
 fn push_retried(
     alloc: Global,
     text: &mut String,
@@ -28,7 +28,7 @@ fn push_retried(
     Ok(())
 }
 
-/// Adds the entries of all tries of an instance; nothing for a last try that succeeded and pushed nothing.
+/// Adds an entry for each try of an instance, in order, but none for a last try that succeeded and pushed nothing.
 fn push_instance(
     alloc: Global,
     text: &mut String,
@@ -44,7 +44,8 @@ fn push_instance(
     push_outcome_entry(alloc, text, name, ended.tries, &ended.outcome)
 }
 
-/// Adds the entries of all instances of an expanded task. `run` is the start of its run, `task` its id.
+/// Adds the entries of all instances of an expanded task, by map index. `run` is the start of its run as a report
+/// writes it, `task` its id.
 fn push_mapped(
     alloc: Global,
     text: &mut String,
@@ -62,7 +63,8 @@ fn push_mapped(
     Ok(())
 }
 
-/// Adds the entries of a task in a run; nothing where it has no try. `run` is the start of the run, `task` its id.
+/// Adds the entries of a task in a run; adds nothing where it didn't run. `run` is the start of the run as a report
+/// writes it, `task` the task's id.
 fn push_task(
     alloc: Global,
     text: &mut String,
@@ -85,7 +87,8 @@ fn push_task(
     }
 }
 
-/// Adds the entries of the tasks of a run, whose ids are `ids` in the same order. `run` is the start of the run.
+/// Adds the entries of a run's tasks, in order. `run` is the start of the run as a report writes it; `ids` are the ids
+/// of `tasks`, in the same order.
 fn push_tasks(
     alloc: Global,
     text: &mut String,
@@ -102,7 +105,7 @@ fn push_tasks(
     Ok(())
 }
 
-/// Adds the entries of a run. `ids` are those of its tasks, in order.
+/// Adds the entries of a run. `ids` are the ids of its tasks, in order.
 fn push_run(
     alloc: Global,
     text: &mut String,
@@ -117,7 +120,7 @@ fn push_run(
     push_tasks(alloc, text, start.as_str(), ids, run.tasks.as_slice())
 }
 
-/// Adds the entries of these runs. `ids` are those of the tasks, in order.
+/// Adds the entries of these runs, in order. `ids` are the ids of their tasks, in order.
 fn push_runs(
     alloc: Global,
     text: &mut String,
@@ -133,7 +136,7 @@ fn push_runs(
     Ok(())
 }
 
-/// The bytes of a text, the first of which, a comma, is replaced by the bracket that opens a list.
+/// The bytes of a text with its first byte, a comma, replaced by `[`. The text isn't empty.
 fn with_opening_bracket(text: String) -> Vec<u8>
     requires { 0 < length (string_bytes text) }
     ensures { result.items ≡ 91 ∷ drop 1 (string_bytes text) }
@@ -143,7 +146,7 @@ fn with_opening_bracket(text: String) -> Vec<u8>
     bytes
 }
 
-/// The table of answers, a list of JSON, over which each try ends as the report tells.
+/// The table of answers, a JSON list, by which each try ends as the report says.
 pub(crate) fn json_table_of(alloc: Global, report: &Report) -> Result<Vec<u8>, OutOfMemory>
     ensures { IfOk result (λ bytes. bytes.items ≡ answers_text report.now) }
 {

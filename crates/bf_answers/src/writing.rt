@@ -8,8 +8,8 @@ use bf_device::{Cause, Write, WriteFault, send};
 use bf_report::Report;
 use std::alloc::Global;
 
-/// Writes the table of answers over which each try ends as a report tells. The whole text is made first, so want of
-/// memory is known before the first byte goes out. It gives up where a write fails or takes nothing, and at the
+/// Writes the table of answers by which each try ends as a report says. `Err` tells how many bytes went out: none where
+/// memory ran out, since the whole text is made first; else those before a write failed or took nothing, or before the
 /// 1,001st interruption.
 pub fn write_answers<W: Write>(
     alloc: Global,

@@ -15,15 +15,16 @@ use bf_planning::{GraphSize, check_graph};
 use bf_value::OutOfMemory;
 use std::alloc::Global;
 
-/// The line that `check` prints, with its line feed, as `ok 3 tasks, 2 edges`. There is no singular.
+/// The line that `check` prints, with its line feed, such as `ok 3 tasks, 2 edges`; the nouns stay plural for 1.
 fn size_line(alloc: Global, size: GraphSize) -> Result<String, OutOfMemory>
     ensures { IfOk result (λ line. string_bytes line ≡ size_text size) }
 {
     Ok(format!(in alloc; "ok {} tasks, {} edges\n", size.tasks, size.edges)?)
 }
 
-/// Does the command `check`: reads the files, checks the graph, and writes how many tasks and edges it has. A fault
-/// where a file can't be read, or the graph has one.
+/// Does the command `check`: reads the graph file and the zone file, and writes how many tasks and edges the graph has.
+/// `Err` where a file can't be read, the graph is refused, `out` fails, or memory runs out. At `Err`, `out` got nothing
+/// but the bytes that `CannotWrite` counts.
 pub fn answer_check<S: Source, W: Write>(
     alloc: Global,
     asked: GraphAsked,

@@ -42,7 +42,7 @@ use std::sync::Wait;
 use std::thread::Threads;
 use std::time::Clock;
 
-/// The launcher that is named, where no table is; None where one is, as a table starts no program.
+/// The launcher that is named; None where there is none, or a table is named, since a table starts no program.
 fn launcher_used<'a>(table: &Option<String>, launcher: &'a Option<String>) -> Option<&'a str>
     ensures { option_map (λ l. l.now) result ≡ launcher_used_of table.now launcher.entry.now }
 {
@@ -52,8 +52,8 @@ fn launcher_used<'a>(table: &Option<String>, launcher: &'a Option<String>) -> Op
     }
 }
 
-/// What a line of `clear` means, once the moments are checked, and then the launcher where no table is named. No file
-/// is read.
+/// Reads the moments of a `clear` line, and then checks that its launcher can be started, unless a table is named.
+/// Reads no file. `Err` where a text is no moment, the launcher can't be started, or memory runs out.
 fn check_asked<L: Launchers>(
     launchers: &L,
     alloc: Global,
@@ -71,7 +71,8 @@ fn check_asked<L: Launchers>(
     Ok(meant)
 }
 
-/// The files of `clear` that are read before any is checked, and what is to be cleared. The report isn't one of them.
+/// What was read for `clear`, unchecked: the graph, zone and table files, and what is to be cleared. The report isn't
+/// read yet.
 #[derive(Drop)]
 struct ClearFiles {
     graph: GraphFiles,
@@ -88,8 +89,8 @@ impl ClearFiles {
     }
 }
 
-/// Reads the graph file, and where they are named, in this order, the zone file, the table and the seeds file. What
-/// they hold isn't checked yet, and the report isn't read.
+/// Reads the graph file, and where they are named, in this order, the zone file, the table and the seeds file. Checks
+/// nothing in them, and doesn't read the report. `Err` where one can't be read, or at want of memory.
 fn read_clear_files<S: Source>(
     alloc: Global,
     graph: GraphAsked,
@@ -115,15 +116,17 @@ fn read_clear_files<S: Source>(
     Ok(ClearFiles { graph, table, what })
 }
 
-/// What the files of `clear` hold but for the report, and what is to be cleared.
+/// What is known before the report of a `clear` is read: the plan, its runs, the table's answers, and what is to be
+/// cleared.
 #[derive(Drop)]
 struct PreparedToClear {
     prepared: Prepared,
     what: ToClear,
 }
 
-/// Reads the graph, zone, table and seeds files that are named, and then checks graph, table and range. The report
-/// isn't read, and what is to be cleared isn't checked.
+/// Reads the graph, zone, table and seeds files that are named, and then checks graph, table and range in this order.
+/// Reads no report, and doesn't check what is to be cleared. `Err` at the first that is refused, where a file can't be
+/// read, or at want of memory.
 fn read_and_prepare<S: Source>(
     alloc: Global,
     graph: GraphAsked,
@@ -157,7 +160,7 @@ fn read_and_prepare<S: Source>(
     })
 }
 
-/// What the files of `clear` hold, the report among them, and what is to be cleared in it.
+/// All that `clear` needs: the plan, its runs, the table's answers, what is to be cleared, and the report.
 #[derive(Drop)]
 pub(crate) struct ReadyToClear {
     pub(crate) prepared: Prepared,
@@ -165,8 +168,9 @@ pub(crate) struct ReadyToClear {
     pub(crate) report: Report,
 }
 
-/// Reads the graph, zone, table and seeds files that are named, checks graph, table and range, and then reads the
-/// report at the path `report`. What is to be cleared in it isn't checked.
+/// Reads the graph, zone, table and seeds files that are named, checks graph, table and range, and then reads the file
+/// at `report`. Doesn't check yet that what is to be cleared is in it. `Err` at the first that is refused, where a file
+/// can't be read, or at want of memory.
 pub(crate) fn read_with_report<S: Source>(
     alloc: Global,
     graph: GraphAsked,
@@ -197,10 +201,10 @@ pub(crate) fn read_with_report<S: Source>(
     })
 }
 
-/// Goes on from a report with `what` cleared, opens the journal once that is known to be in it, records each other
-/// try, and writes the new report; true where every run is a success. A table answers these tries, or programs do
-/// where `answers` is None.
-fn resume_recorded<RT, J: Journals, W: Write>(
+/// Clears `what` in the report, then opens the journal, makes and records each try that neither keeps, and writes the
+/// new report; true where every run succeeded. `answers` answers these tries; None starts programs. `Err` where the
+/// report, what to clear, or the journal is refused, the backfill stops early, `out` fails, or memory runs out.
+fn clear_and_record<RT, J: Journals, W: Write>(
     crew: &Crew<'_, RT>,
     dated: &DatedPlan,
     answers: Option<Table>,
@@ -231,8 +235,9 @@ where
     record_clearing(crew, &clearing, answers, journal, journals, out)
 }
 
-/// Goes on from the report that was read with `what` cleared, and from a journal where one is named, and writes the
-/// new report; true where every run is a success.
+/// Clears in the report what is asked for, makes the tries that aren't kept, in a journal where one is named, and
+/// writes the new report; true where every run succeeded. `Err` where the report, what to clear, or the journal is
+/// refused, the backfill stops early, `out` fails, or memory runs out.
 fn resume_report<RT, J: Journals, W: Write>(
     crew: &Crew<'_, RT>,
     ready: ReadyToClear,
@@ -272,14 +277,16 @@ where
     match journal {
         Some(journal) => {
             let Prepared { dated, answers } = prepared;
-            resume_recorded(crew, &dated, answers, report, what, journal, journals, out)
+            clear_and_record(crew, &dated, answers, report, what, journal, journals, out)
         }
         None => write_resumed_report(crew, prepared, report, what, out),
     }
 }
 
-/// Does the command `clear`, and writes the new report. The moments are checked first, then the launcher where no
-/// table is named, then the files but for the report, and then the report and what is to be cleared.
+/// Does `clear`, or `run --keep` and `dry --keep`, which clear nothing: makes the tries that aren't kept and writes the
+/// new report. `Err` where a moment, the launcher, a file, or what to clear is refused, checked in this order; also
+/// where the backfill stops early, `out` fails, or memory runs out. At `Err`, `out` got nothing but the bytes that
+/// `CannotWrite` counts.
 pub fn answer_clear<
     RT: Starter + Screen + Threads + Wait + Clock + Sync,
     J: Journals + Launchers,

@@ -16,7 +16,8 @@ use bf_device::Write;
 use bf_disk::Source;
 use std::alloc::Global;
 
-/// Writes what would be cleared in a report that was read. A fault where nothing is.
+/// Writes what would be cleared in a report. `Err` where the report isn't of this graph and these runs, what to clear
+/// isn't in it, `out` fails, or memory runs out.
 fn write_plan<W: Write>(alloc: Global, ready: ReadyToClear, out: &mut W) -> Result<(), CommandFault>
     ensures ok { OnOk result (Sends
         (IsClearPlan ready.prepared.dated.plan.dag ready.prepared.dated.runs ready.report
@@ -36,8 +37,9 @@ fn write_plan<W: Write>(alloc: Global, ready: ReadyToClear, out: &mut W) -> Resu
     write_clear_plan(alloc, &prepared.dated, report, &what, out)
 }
 
-/// Does the command `clear --plan`: writes what would be cleared, and starts no program. The moments are checked
-/// first, then the files but for the report, and then the report.
+/// Does `clear --plan`: writes what `clear` would make again, and starts no program. `Err` where a moment, a file, or
+/// what to clear is refused, checked in this order; also where `out` fails or memory runs out. At `Err`, `out` got
+/// nothing but the bytes that `CannotWrite` counts.
 pub fn answer_clear_plan<S: Source, W: Write>(
     alloc: Global,
     asked: ClearPlanAsked,

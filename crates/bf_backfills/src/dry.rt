@@ -19,8 +19,9 @@ use std::sync::Wait;
 use std::thread::Threads;
 use std::time::Clock;
 
-/// Does the command `dry`: runs a graph over a table's answers and writes the report. The moments are checked first;
-/// then the files are read, and only then is what they hold checked.
+/// Does `dry`: runs a graph over a range with a table's answers, and writes the report. `Err` where a moment is bad, a
+/// file can't be read, or what a file holds is refused, checked in this order; also where a thread can't be started,
+/// `out` fails, or memory runs out. At `Err`, `out` got nothing but the bytes that `CannotWrite` counts.
 pub fn answer_dry<RT: Starter + Screen + Threads + Wait + Clock + Sync, S: Source, W: Write>(
     rt: &RT,
     alloc: Global,

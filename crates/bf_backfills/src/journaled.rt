@@ -29,7 +29,7 @@ use std::sync::Wait;
 use std::thread::Threads;
 use std::time::Clock;
 
-/// The fault of a command whose journal, at this path, can't be opened.
+/// Gives the command's fault where the journal at `path` can't be opened: unreadable, in use, or want of memory.
 fn fault_of_opening(path: String, fault: OpenFault) -> CommandFault
     ensures { result ≡ of_open (string_bytes path) fault }
 {
@@ -40,8 +40,8 @@ fn fault_of_opening(path: String, fault: OpenFault) -> CommandFault
     }
 }
 
-/// The fault of a backfill with a journal at this path: that the file can't be written where a record couldn't be,
-/// else the fault itself.
+/// Names the journal's `path` in a fault: a try that can't be recorded becomes `CannotWriteFile(path)`; any other fault
+/// stays as it is.
 fn fault_at_journal(fault: CommandFault, path: String) -> CommandFault
     ensures { result ≡ journaled_fault (string_bytes path) fault }
 {
@@ -53,15 +53,15 @@ fn fault_at_journal(fault: CommandFault, path: String) -> CommandFault
     }
 }
 
-/// A journal that was asked for, and its path.
+/// An open journal, and its path as the line spells it.
 #[derive(Drop)]
 struct NamedJournal<D: Cuttable + Drop> {
     journal: Journal<D>,
     path: String,
 }
 
-/// Opens the journal that is asked for, or makes it, and locks it. A fault where it can't be opened, locked or read,
-/// or another backfill has it open.
+/// Opens the journal that is asked for, or makes it, locks it, and reads all that it holds. `Err` where it can't be
+/// opened, locked or read, another backfill has it open, or memory runs out.
 fn open_named_journal<J: Journals>(
     journals: &J,
     alloc: Global,
@@ -93,8 +93,9 @@ fn open_named_journal<J: Journals>(
     }
 }
 
-/// Opens the journal that is asked for, starts the programs of the tries that it doesn't keep, records these and
-/// writes the report; true where every run is a success.
+/// Opens the journal, starts the programs of the tries that it doesn't keep, records these, and writes the report; true
+/// where every run succeeded. `Err` where the journal is refused, the backfill stops early, `out` fails, or memory runs
+/// out.
 fn record_dated_run<RT, J: Journals, W>(
     crew: &Crew<'_, RT>,
     dated: &DatedPlan,
@@ -128,8 +129,9 @@ where
     }
 }
 
-/// Does the command `run` with a journal, which is opened once the range is known to have no fault: starts programs,
-/// records their tries and writes the report; true where every run is a success.
+/// Does `run` with a journal, which it opens only once graph and range are found good: starts programs, records their
+/// tries, and writes the report; true where every run succeeded. `Err` where graph, range or journal is refused, the
+/// backfill stops early, `out` fails, or memory runs out.
 fn record_run<RT, J: Journals, W>(
     crew: &Crew<'_, RT>,
     files: &GraphFiles,
@@ -162,8 +164,9 @@ where
     record_dated_run(crew, &dated, asked, journals, out)
 }
 
-/// Does the command `run` over files that were read: starts the programs, records their tries where a journal is
-/// named, and writes the report; true where every run is a success.
+/// Does `run` over files that were read: starts programs, records their tries where a journal is named, and writes the
+/// report; true where every run succeeded. `Err` where graph, range or journal is refused, the backfill stops early,
+/// `out` fails, or memory runs out.
 pub(crate) fn write_run_report<RT, J: Journals, W>(
     crew: &Crew<'_, RT>,
     files: &GraphFiles,
@@ -199,9 +202,9 @@ where
     }
 }
 
-/// Opens the journal that is asked for, goes on from it and else from what is kept of the report, records each other
-/// try, and writes the new report; true where every run is a success. A table answers these tries, or programs do
-/// where `answers` is None.
+/// Opens the journal, takes each try from it or else from what is kept of the report, makes and records the others, and
+/// writes the new report; true where every run succeeded. `answers` answers them; None starts programs. `Err` where the
+/// journal is refused, the backfill stops early, `out` fails, or memory runs out.
 pub(crate) fn record_clearing<RT, J: Journals, W>(
     crew: &Crew<'_, RT>,
     clearing: &Clearing<'_>,

@@ -11,14 +11,15 @@ use bf_process::Launching;
 use bf_value::Text;
 use std::alloc::Global;
 
-/// The text of a path; None where none is named.
+/// Lends the path; None where none is named.
 pub(crate) fn path_named(path: &Option<String>) -> Option<&str>
     ensures { option_map (λ p. p.now) result ≡ option_map string_bytes path.entry.now }
 {
     path.as_deref()
 }
 
-/// Refuses a launcher that can't be started; does nothing where none is named. Nothing is started.
+/// Checks that the launcher can be started, without starting it; passes where none is named. `Err(CannotLaunch)` where
+/// it can't be, or want of memory.
 pub(crate) fn refuse_unstartable_launcher<L: Launchers>(
     launchers: &L,
     alloc: Global,
@@ -39,8 +40,8 @@ pub(crate) fn refuse_unstartable_launcher<L: Launchers>(
     Err(CommandFault::CannotLaunch(path))
 }
 
-/// How programs are launched with this launcher and this folder of logs, None where not named; without the clocks of
-/// the runs.
+/// How to launch programs with this launcher and this folder of logs, None for those not named. The clocks of the runs
+/// are left empty, to be set later.
 pub(crate) fn launching_asked<'a>(
     launcher: &'a Option<String>,
     logs: &'a Option<String>,
@@ -54,8 +55,8 @@ pub(crate) fn launching_asked<'a>(
     }
 }
 
-/// What is told unasked where programs make the tries: progress on a terminal; failed tries on a terminal, with
-/// `progress`, and with logs; nothing where `quiet`. Contracts say only when nothing is told.
+/// What to tell on the screen besides the report: progress on a terminal; failed tries on a terminal, with `progress`,
+/// or with logs; nothing with `quiet`, or where a table answers. The contract covers only when nothing is told.
 pub(crate) fn tells_by_options<RT: Screen>(
     rt: &RT,
     by_programs: bool,

@@ -17,19 +17,22 @@ use bf_planning::RunRange;
 use bf_value::{OutOfMemory, Text};
 use std::alloc::Global;
 
-/// What is to be cleared, where its file isn't read yet.
+/// What a line asks to clear, before a seeds file is read.
 #[derive(Drop)]
 pub(crate) enum UnreadToClear {
+    /// These tasks in runs, or instances of them.
     Seeds(Vec<Seed>),
-    /// The path of a file.
+    /// What the lines of the file at this path name.
     File(String),
+    /// Each instance that failed.
     Failed,
+    /// Nothing: the whole report is kept.
     Nothing,
 }
 
-/// The seed that a command line names by a task, the start of a run, and maybe a map index. A fault where the start
-/// is no moment.
-fn seed_of(alloc: Global, asked: &SeedAsked) -> Result<Seed, CommandFault>
+/// Reads the seed that a line names by a task, the start of a run, and maybe a map index. `Err` where the start is no
+/// moment, or at want of memory.
+fn read_seed(alloc: Global, asked: &SeedAsked) -> Result<Seed, CommandFault>
     ensures means { IfOk result (MeansSeed asked.now) }
     ensures bad { IfErr result (IsUnmeant (IsNoMoment (string_bytes asked.now.run))) }
 {
@@ -42,7 +45,7 @@ fn seed_of(alloc: Global, asked: &SeedAsked) -> Result<Seed, CommandFault>
     })
 }
 
-/// Adds a seed behind those of `seeds`.
+/// Appends a seed.
 fn add_seed(seeds: &mut Vec<Seed>, seed: Seed) -> Result<(), OutOfMemory>
     ensures { OnOk result (seeds.new.items ≡ seeds.old.items ++ seed ∷ []) }
 {
@@ -50,27 +53,30 @@ fn add_seed(seeds: &mut Vec<Seed>, seed: Seed) -> Result<(), OutOfMemory>
     Ok(())
 }
 
-/// The seeds that a command line names, in order. A fault where the run of one is no moment.
-fn seeds_of(alloc: Global, asked: &[SeedAsked]) -> Result<Vec<Seed>, CommandFault>
+/// Reads the seeds that a line names, in its order. `Err` where the run of one is no moment, or at want of memory.
+fn read_seeds(alloc: Global, asked: &[SeedAsked]) -> Result<Vec<Seed>, CommandFault>
     ensures means { IfOk result (λ seeds. MeanSeeds asked.now seeds.items) }
     ensures bad { IfErr result (IsUnmeant (HasUnmeantRun asked.now)) }
 {
     let mut seeds = Vec::new(alloc);
     for one in asked {
-        let seed = seed_of(alloc, one)?;
+        let seed = read_seed(alloc, one)?;
         add_seed(&mut seeds, seed)?;
     }
     Ok(seeds)
 }
 
-/// What a command line asks to clear. A fault where the run of a seed is no moment. A seeds file is only named, and
-/// not read.
+/// Reads what a line asks to clear; a seeds file is only named, not opened. `Err` where the run of a seed is no moment,
+/// or at want of memory.
 fn to_clear_asked(alloc: Global, asked: &ClearedAsked) -> Result<UnreadToClear, CommandFault>
     ensures means { IfOk result (MeansNamed asked.now) }
     ensures bad { IfErr result (IsUnmeant (HasNoMoment asked.now)) }
 {
     match asked {
-        ClearedAsked::Seeds(asked) => Ok(UnreadToClear::Seeds(seeds_of(alloc, asked.as_slice())?)),
+        ClearedAsked::Seeds(asked) => Ok(UnreadToClear::Seeds(read_seeds(
+            alloc,
+            asked.as_slice(),
+        )?)),
         ClearedAsked::File(path) => Ok(UnreadToClear::File(String::from_str(
             alloc,
             path.as_str(),
@@ -80,14 +86,15 @@ fn to_clear_asked(alloc: Global, asked: &ClearedAsked) -> Result<UnreadToClear, 
     }
 }
 
-/// What a line means that names a range and what is to be cleared in it.
+/// What a line's texts mean: a range, and what to clear in it.
 #[derive(Drop)]
 pub(crate) struct Meant {
     pub(crate) range: RunRange,
     pub(crate) named: UnreadToClear,
 }
 
-/// What the texts of a line mean. A fault where one is no moment, or no days; the range's are looked at first.
+/// Reads the texts of a line, first its range and then what to clear. `Err` where one is no moment or no days, or at
+/// want of memory.
 pub(crate) fn meaning_of(
     alloc: Global,
     range: &RangeAsked,
@@ -102,8 +109,7 @@ pub(crate) fn meaning_of(
     Ok(Meant { range, named })
 }
 
-/// What is to be cleared, with the bytes of the seeds file where one is named. Reads no other file. A fault where it
-/// can't be read.
+/// Reads the seeds file, where one is named, and opens no other. `Err` where it can't be read, or at want of memory.
 pub(crate) fn read_to_clear<S: Source>(
     alloc: Global,
     named: UnreadToClear,

@@ -8,9 +8,9 @@ use bf_days::Days;
 use bf_input::moment_of;
 use bf_planning::{MomentRange, RunRange, Starts};
 
-/// Where the data intervals of a range start: between two moments, both included, or on days. A fault where a text
-/// says neither.
-fn starts_of(asked: &StartsAsked) -> Result<Starts, CommandFault>
+/// Reads where data intervals have to start: between two moments, both included, or on days. `Err(BadMoment)` where a
+/// text is no moment or no days.
+fn read_starts(asked: &StartsAsked) -> Result<Starts, CommandFault>
     ensures means { IfOk result (MeansStarts asked.now) }
     ensures bad { IfErr result (λ f. (f ≡ CommandFault.BadMoment) × IsNoStarts asked.now) }
 {
@@ -27,12 +27,12 @@ fn starts_of(asked: &StartsAsked) -> Result<Starts, CommandFault>
     }
 }
 
-/// The range of runs that a command line asks for. A fault where one of its texts is no moment, or no days.
+/// Reads the range of runs that a line asks for. `Err(BadMoment)` where a text is no moment or no days.
 pub(crate) fn range_of(asked: &RangeAsked) -> Result<RunRange, CommandFault>
     ensures means { IfOk result (MeansRange asked.now) }
     ensures bad { IfErr result (λ f. (f ≡ CommandFault.BadMoment) × IsNoStarts asked.now.starts) }
 {
-    let starts = starts_of(&asked.starts)?;
+    let starts = read_starts(&asked.starts)?;
     Ok(RunRange {
         starts,
         some: asked.some,

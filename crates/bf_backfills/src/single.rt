@@ -18,8 +18,9 @@ use std::sync::Wait;
 use std::thread::Threads;
 use std::time::Clock;
 
-/// Does the command `single`: runs a graph once over a table's answers, and writes the report. The moment is checked
-/// first; then the files are read, and only then is what they hold checked.
+/// Does `single`: runs a graph once with a table's answers, and writes the report. `Err` where the moment is bad, a
+/// file can't be read, or what a file holds is refused, checked in this order; also where `out` fails or memory runs
+/// out. At `Err`, `out` got nothing but the bytes that `CannotWrite` counts.
 pub fn answer_single<RT: Starter + Screen + Threads + Wait + Clock + Sync, S: Source, W: Write>(
     rt: &RT,
     alloc: Global,

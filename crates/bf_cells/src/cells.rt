@@ -18,8 +18,8 @@ use bf_value::OutOfMemory;
 use bf_xcom::{RunState, TaskResult};
 use std::alloc::Global;
 
-/// Adds the letter of each task of a run, 0 for the first, without a line feed. `settled` are the tasks of the run
-/// and `before` those of the run before, none for the first.
+/// Adds the letter of each task of run number `run`, from 0, which tells its state and why; a digit where the graph
+/// decides otherwise. `settled` are the tasks of the run and `before` those of the run before, empty for the first.
 fn push_letters(
     text: &mut String,
     plan: &Plan,
@@ -41,7 +41,7 @@ fn push_letters(
     Ok(())
 }
 
-/// Adds the letter of each of these instances, nothing between them.
+/// Adds the letter of each of these instances, in order: `s`, `r`, `f` or `x`, for how it ended.
 fn push_instance_letters(text: &mut String, results: &[TaskResult]) -> Result<(), OutOfMemory>
     ensures { OnOk result (string_bytes text.new
         ≡ string_bytes text.old ++ map (λ ended. ended_letter_of ended.outcome ended.tries)
@@ -53,7 +53,7 @@ fn push_instance_letters(text: &mut String, results: &[TaskResult]) -> Result<()
     Ok(())
 }
 
-/// Adds a space and a letter for each instance of a task that is expanded and ran; nothing for another task.
+/// Adds a space and the letters of a task's instances where the task ran expanded; adds nothing for another task.
 fn push_instances_word(text: &mut String, task: &Settled<'_>) -> Result<(), OutOfMemory>
     ensures { OnOk result (string_bytes text.new ≡ string_bytes text.old ++ word_behind task.now) }
 {
@@ -64,7 +64,7 @@ fn push_instances_word(text: &mut String, task: &Settled<'_>) -> Result<(), OutO
     Ok(())
 }
 
-/// Adds for each of these tasks that is expanded and ran a space and the letters of its instances.
+/// Adds a space and the letters of its instances for each of these tasks that ran expanded, in order.
 fn push_instances_words(text: &mut String, settled: &[Settled<'_>]) -> Result<(), OutOfMemory>
     ensures { OnOk result (string_bytes text.new
         ≡ string_bytes text.old ++ flat_map word_behind settled.now) }
@@ -85,7 +85,7 @@ fn run_state_word(state: RunState) -> &'static str
     }
 }
 
-/// Adds the start, the end and the state of a run, a space behind each.
+/// Adds the start, the end and the state of a run, each followed by a space.
 fn push_interval_and_state(text: &mut String, run: &RunReport) -> Result<(), OutOfMemory>
     ensures { OnOk result (string_bytes text.new ≡ string_bytes text.old
         ++ (moment_text run.now.interval.start.nanosecond
@@ -99,8 +99,9 @@ fn push_interval_and_state(text: &mut String, run: &RunReport) -> Result<(), Out
     Ok(())
 }
 
-/// Adds the line of run `number`, 0 for the first, of a report, with its line feed: data interval, state, and letters
-/// of tasks and instances. `settled` are its tasks, `before` those of the run before, none for the first.
+/// Adds the line of run number `number`, from 0, with its line feed: its data interval, its state, a letter for each
+/// task, and one for each instance of those that ran expanded. `settled` are its tasks, `before` those of the run
+/// before, empty for the first.
 fn push_row(
     text: &mut String,
     plan: &Plan,
@@ -123,7 +124,8 @@ fn push_row(
     Ok(())
 }
 
-/// Adds the line of each run of a report, with its line feed.
+/// Adds the line of each run of a report, in order, with its line feed. Each run has the plan's tasks, and no task has
+/// more than 1,024 instances.
 fn push_rows(
     alloc: Global,
     text: &mut String,
@@ -144,8 +146,8 @@ fn push_rows(
     Ok(())
 }
 
-/// The cells of a report: a head line and a line for each run. `bytes` is the length of the report's text. Each run
-/// has the tasks of the graph, and none of these more than 1,024 instances.
+/// The cells of a report: a head with its dag id, how many tasks and runs it has and `bytes`, the length of its text,
+/// then a line for each run. Each run has the plan's tasks, and no task has more than 1,024 instances.
 pub fn cells_of(
     alloc: Global,
     plan: &Plan,

@@ -16,13 +16,13 @@ ghost use Rattle.bf_report.specs.declared.report.TaskReport.{TaskReport};
 use bf_moment::long_form_is_what_is_written;
 use bf_reason::own_reports_have_no_digit;
 
-/// Each task of a run has a letter.
+/// A law: a run has as many letters as tasks.
 pub fn each_task_has_a_letter()
     ensures { (dag : Dag) (report : Report) (run place : ℕ) (tasks : List TaskReport) →
         length (letters_from dag report run place tasks) ≡ length tasks }
 {}
 
-/// No digit stands among the letters of a run of a backfill's own report.
+/// A law: no letter of a run is a digit in a backfill's own report.
 pub fn own_letters_have_no_digit()
     ensures { (dag : Dag) → IsSound dag → (intervals : List Interval) (ledger : Ledger) →
         (report : Report) → IsDated dag intervals ledger report →
@@ -32,7 +32,7 @@ pub fn own_letters_have_no_digit()
     own_reports_have_no_digit();
 }
 
-/// A page has the cells of a report unescaped, if its dag id is an id and its moments are whole seconds.
+/// A law: a page has the cells of a report unescaped where its dag id is an id and its moments are whole seconds.
 pub fn cells_stand_as_they_are()
     ensures { (dag : Dag) (report : Report) (bytes : ℕ) → is_id_in report.dag_id ≡ true
         → HasWholeMoments report.runs →

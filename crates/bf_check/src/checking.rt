@@ -21,7 +21,7 @@ use bf_value::{OutOfMemory, Sequence};
 use bf_zone::Zone;
 use std::alloc::Global;
 
-/// What is found of each task.
+/// What the check finds of each task, in file order: its rule, what it pulls from, and its source of items.
 #[derive(Drop)]
 struct Found {
     rules: Vec<Rule>,
@@ -29,7 +29,7 @@ struct Found {
     sources: Vec<Option<u32>>,
 }
 
-/// What is looked at behind the graph and the limits.
+/// What the check finds after the graph and the limits.
 #[derive(Drop)]
 struct Rest {
     schedule: CronSpec,
@@ -37,7 +37,7 @@ struct Rest {
     found: Found,
 }
 
-/// What a draft is found to have beside what it says of its tasks.
+/// What the check finds of a draft.
 #[derive(Drop)]
 struct Parts {
     graph: Graph,
@@ -47,7 +47,8 @@ struct Parts {
 
 // A look that refuses drops all that is held. So each of these holds little of it.
 impl DraftUnderCheck<'_> {
-    /// The limits of a draft without the faults 1 to 7; refused for an unknown pool (8) or slots beyond it (9).
+    /// Finds the limits of a draft that has no refusal below 8 (docs/FORMATS.md). Err for an unknown pool (8), slots
+    /// beyond it (9), or at want of memory.
     fn check_limits(&self, alloc: Global) -> Result<Limits, CheckFault>
         requires { HasNoneBelow self.now.draft.now 8 }
         ensures limits { IfOk result (λ limits. limits ≡ limits_in self.now.draft.now) }
@@ -59,8 +60,8 @@ impl DraftUnderCheck<'_> {
         Ok(limits_of(alloc, self.draft, demands)?)
     }
 
-    /// The rule, pulls and source of each task of a draft without the faults 1 to 13, whose `rules` were found;
-    /// refused for the faults 14 to 17, of pulls and expansions.
+    /// Finds the rule, pulls and source of each task of a draft that has no refusal below 14 (docs/FORMATS.md) and
+    /// whose `rules` were found. Err for the refusals 14 to 17, of pulls and expansions, or at want of memory.
     fn check_tasks(
         &self,
         alloc: Global,
@@ -87,8 +88,9 @@ impl DraftUnderCheck<'_> {
         })
     }
 
-    /// The schedule, the zone and what is found of each task of a draft without the faults 1 to 9; refused for the
-    /// faults 10 to 17, of rules, the schedule, pulls and expansions.
+    /// Finds the schedule, the zone, and the rule, pulls and source of each task, for a draft that has no refusal below
+    /// 10 (docs/FORMATS.md). Err for the refusals 10 to 17, of rules, schedule, zone, pulls and expansions, or at want
+    /// of memory.
     fn check_behind_limits(&self, alloc: Global, graph: &Graph) -> Result<Rest, CheckFault>
         requires graph { graph.now ≡ shape_in self.now.draft.now.tasks }
         requires below { HasNoneBelow self.now.draft.now 10 }
@@ -112,7 +114,8 @@ impl DraftUnderCheck<'_> {
         })
     }
 
-    /// All that a plan needs beside the draft itself, or of the draft's faults the one of the least number.
+    /// Finds all that a plan needs beside the draft. Err for the draft's refusal of the least number (docs/FORMATS.md),
+    /// or at want of memory.
     fn check_all(&self, alloc: Global) -> Result<Parts, CheckFault>
         ensures found { IfOk result (λ parts. AreFoundIn self.now.draft.now.tasks parts.graph
             parts.rest.found) }
@@ -138,7 +141,7 @@ impl DraftUnderCheck<'_> {
     }
 }
 
-/// The dag of a plan: the draft's id, and its tasks joined with what was found of each.
+/// Makes the dag of a plan: the draft's id, and its tasks with what was found of each.
 fn dag_of_found(
     alloc: Global,
     draft: Draft,
@@ -163,7 +166,7 @@ fn dag_of_found(
     })
 }
 
-/// The plan of a draft without faults, put together from what its check found, and the zone of its schedule.
+/// Makes the plan of a draft without faults from what the check found, and gives it with the zone of its schedule.
 fn plan_of_parts(alloc: Global, draft: Draft, parts: Parts) -> Result<(Plan, Zone), OutOfMemory>
     requires found { AreFoundIn draft.tasks parts.graph parts.rest.found }
     requires limits { parts.limits ≡ limits_in draft }
@@ -181,8 +184,8 @@ fn plan_of_parts(alloc: Global, draft: Draft, parts: Parts) -> Result<(Plan, Zon
     Ok((plan, rest.zone))
 }
 
-/// What the check finds of a draft, or of its faults the one of the least number. `zone_file` has the bytes for the
-/// zone `file`.
+/// Checks a draft and gives what a plan needs beside it. Err for the refusal of the least number (docs/FORMATS.md), or
+/// at want of memory. `zone_file` has the bytes for the zone `file`.
 fn check_draft(alloc: Global, draft: &Draft, zone_file: Option<&[u8]>) -> Result<Parts, CheckFault>
     ensures found { IfOk result (λ parts. AreFoundIn draft.now.tasks parts.graph parts.rest.found) }
     ensures limits { IfOk result (λ parts. parts.limits ≡ limits_in draft.now) }
@@ -203,8 +206,9 @@ fn check_draft(alloc: Global, draft: &Draft, zone_file: Option<&[u8]>) -> Result
     looks.check_all(alloc)
 }
 
-/// The plan of a draft and the zone of its schedule, or of its faults the one of the least number; of the tasks that
-/// have it the first in the file is named. The bytes of a zone file are looked at only where the zone is `file`.
+/// Makes the plan of a draft, and gives it with the zone of its schedule. Err for the refusal of the least number
+/// (docs/FORMATS.md), with the first task in the file that has it, or at want of memory. `zone_file` has the bytes for
+/// the zone `file`; no other zone needs them.
 pub fn check(
     alloc: Global,
     draft: Draft,

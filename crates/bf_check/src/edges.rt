@@ -15,7 +15,7 @@ use bf_read::{Draft, TaskDraft};
 use bf_value::{OutOfMemory, Sequence, Text};
 use std::alloc::Global;
 
-/// The ids of the tasks, in order, as strings.
+/// Copies the ids of the tasks, in order, as strings.
 fn id_strings_of(alloc: Global, tasks: &[TaskDraft]) -> Result<Vec<String>, OutOfMemory>
     ensures { IfOk result (λ v. texts v.items ≡ ids_of tasks.now) }
 {
@@ -26,14 +26,14 @@ fn id_strings_of(alloc: Global, tasks: &[TaskDraft]) -> Result<Vec<String>, OutO
     Ok(ids)
 }
 
-/// The ids of the tasks, in order, with their numbers.
+/// Gives the ids of the draft's tasks, in order, so that each id leads to its number.
 pub(crate) fn task_ids_of(alloc: Global, draft: &Draft) -> Result<Ids, OutOfMemory>
     ensures { IfOk result (λ ids. ids ≡ ids_of draft.now.tasks) }
 {
     Ids::from_distinct(alloc, id_strings_of(alloc, draft.tasks.as_slice())?)
 }
 
-/// The index of an id among `ids`; None where it is none of them.
+/// Finds an id among `ids`, by its index; None where it is none of them.
 pub(crate) fn place_of(ids: &[Text], id: &str) -> Option<usize>
     ensures place { result ≡ position (bytes_eq id.now) ids.now }
     ensures within { IfSome result (λ n. n < length ids.now) }
@@ -41,7 +41,7 @@ pub(crate) fn place_of(ids: &[Text], id: &str) -> Option<usize>
     ids.iter().position(|other| id == other.as_str())
 }
 
-/// The numbers of the tasks with the ids `names`, in order; None where one of these is no task's.
+/// Gives the numbers of the tasks with the ids `names`, in order; None where one of these is no task's.
 pub(crate) fn numbers_of(
     alloc: Global,
     ids: &Ids,
@@ -60,7 +60,7 @@ pub(crate) fn numbers_of(
     Ok(Some(numbers))
 }
 
-/// The ids of the tasks with these numbers, in their order.
+/// Copies the ids of the tasks with these numbers, in their order.
 fn ids_at(alloc: Global, tasks: &[TaskDraft], numbers: &[u32]) -> Result<Vec<Text>, OutOfMemory>
     requires { (t : ℕ) → Contains numbers.now t → t < length tasks.now }
     ensures { IfOk result (λ v. v.items
@@ -73,7 +73,7 @@ fn ids_at(alloc: Global, tasks: &[TaskDraft], numbers: &[u32]) -> Result<Vec<Tex
     Ok(names)
 }
 
-/// For each task the numbers of its upstreams; None for one with an upstream that is no task.
+/// Gives the numbers of each task's upstreams; None for a task that has an upstream which is no task.
 fn numbers_of_upstreams(
     alloc: Global,
     ids: &Ids,
@@ -90,7 +90,8 @@ fn numbers_of_upstreams(
 }
 
 impl DraftUnderCheck<'_> {
-    /// The numbers of each task's upstreams; refused where an upstream is the id of no task (6).
+    /// Gives the numbers of each task's upstreams. Err for an upstream that is no task (refusal 6), or at want of
+    /// memory.
     fn check_upstreams(&self, alloc: Global) -> Result<Vec<Vec<u32>>, CheckFault>
         ensures upstreams { IfOk result (λ upstreams. lists upstreams.items
             ≡ (shape_in self.now.draft.now.tasks).upstreams) }
@@ -102,7 +103,8 @@ impl DraftUnderCheck<'_> {
         self.unwrap_or_refuse(alloc, TaskFault::UnknownUpstream, found)
     }
 
-    /// The graph of the tasks with these upstreams; refused where they have a cycle (7), which the fault names.
+    /// Makes the graph of the tasks with these upstreams. Err for a cycle (refusal 7), which it names, or at want of
+    /// memory.
     fn check_cycles(&self, alloc: Global, upstreams: Vec<Vec<u32>>) -> Result<Graph, CheckFault>
         requires upstreams { lists upstreams.items ≡ (shape_in self.now.draft.now.tasks).upstreams }
         requires below { HasNoneBelow self.now.draft.now 7 }
@@ -126,7 +128,8 @@ impl DraftUnderCheck<'_> {
         }
     }
 
-    /// The graph of a draft's tasks; refused for an unknown upstream (6) or a cycle (7).
+    /// Makes the graph of the draft's tasks. Err for an unknown upstream (refusal 6), a cycle (refusal 7), or at want
+    /// of memory.
     pub(crate) fn check_graph(&self, alloc: Global) -> Result<Graph, CheckFault>
         ensures graph { IfOk result (λ graph. graph ≡ shape_in self.now.draft.now.tasks) }
         ensures ranking { OnOk result (Ranking (shape_in self.now.draft.now.tasks).upstreams) }

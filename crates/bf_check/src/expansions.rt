@@ -17,8 +17,8 @@ use bf_rule::Rule;
 use bf_value::OutOfMemory;
 use std::alloc::Global;
 
-/// The number of the task over whose items a task is expanded, `Some(None)` where it isn't expanded; `None` where
-/// that task isn't one of its upstreams, whose numbers are `upstreams`.
+/// Gives the number of the task over whose items a task is expanded, `Some(None)` where it isn't expanded; `None` where
+/// that is none of its upstreams, whose numbers `upstreams` has.
 fn source_of(task: &TaskDraft, upstreams: &[u32]) -> Option<Option<u32>>
     requires { length upstreams.now ≡ length task.now.upstreams }
     ensures { (ids : List (List ℕ)) → upstreams.now ≡ map (number_or_0 ids) task.now.upstreams
@@ -31,8 +31,8 @@ fn source_of(task: &TaskDraft, upstreams: &[u32]) -> Option<Option<u32>>
     Some(Some(upstreams[place]))
 }
 
-/// The index of the first expanded task that its rule may decide before its upstreams settle; None where there is
-/// none. `rules` has the rule of each task.
+/// Finds the first expanded task, by its index, whose rule may decide it before its upstreams settle; None where there
+/// is none. `rules` has the rule of each task.
 fn first_expanded_early(tasks: &[TaskDraft], rules: &[Rule]) -> Option<usize>
     ensures { result ≡ position (λ both. is_some both.0.expand
         && not (is_waiting both.1)) (zip tasks.now rules.now) }
@@ -41,7 +41,7 @@ fn first_expanded_early(tasks: &[TaskDraft], rules: &[Rule]) -> Option<usize>
         && !rule.waits_until_settled())
 }
 
-/// The index of the first branch that is expanded; None where there is none.
+/// Finds the first task, by its index, that is a branch and expanded; None where there is none.
 fn first_expanded_branch(tasks: &[TaskDraft]) -> Option<usize>
     ensures { result ≡ position expands_branch tasks.now }
 {
@@ -49,8 +49,8 @@ fn first_expanded_branch(tasks: &[TaskDraft]) -> Option<usize>
 }
 
 impl DraftUnderCheck<'_> {
-    /// The source of each task, `Some(None)` for one that isn't expanded; `None` for one that is expanded over a task
-    /// not directly upstream of it.
+    /// Gives the source of each task's items, `Some(None)` where it isn't expanded; `None` for a task that is expanded
+    /// over one not directly upstream of it.
     fn sources_of_each(
         &self,
         alloc: Global,
@@ -67,8 +67,8 @@ impl DraftUnderCheck<'_> {
         Ok(found)
     }
 
-    /// The source of each task, None for one that isn't expanded; refused where one is expanded over what isn't a
-    /// direct upstream (15).
+    /// Gives the source of each task's items, None where it isn't expanded. Err for a task expanded over one not
+    /// directly upstream of it (refusal 15), or at want of memory.
     fn check_sources(&self, alloc: Global, graph: &Graph) -> Result<Vec<Option<u32>>, CheckFault>
         requires graph { graph.now ≡ shape_in self.now.draft.now.tasks }
         requires below { HasNoneBelow self.now.draft.now 15 }
@@ -84,7 +84,8 @@ impl DraftUnderCheck<'_> {
         self.unwrap_or_refuse(alloc, TaskFault::ExpandSource, found)
     }
 
-    /// Refuses a task that is expanded under a rule which may decide it before its upstreams are settled (16).
+    /// Refuses a task that is expanded under a rule which may decide it before its upstreams settle. Err for the first
+    /// such task (refusal 16), or at want of memory.
     fn refuse_early_expansions(&self, alloc: Global, rules: &[Rule]) -> Result<(), CheckFault>
         requires rules { rules.now ≡ map rule_of self.now.draft.now.tasks }
         requires below { HasNoneBelow self.now.draft.now 16 }
@@ -98,7 +99,7 @@ impl DraftUnderCheck<'_> {
         self.refuse_at(alloc, TaskFault::ExpandRule, early)
     }
 
-    /// Refuses a task that is a branch and expanded (17).
+    /// Refuses a task that is a branch and expanded. Err for the first such task (refusal 17), or at want of memory.
     fn refuse_expanded_branches(&self, alloc: Global) -> Result<(), CheckFault>
         requires below { HasNoneBelow self.now.draft.now 17 }
         requires scheduled { IsScheduled self.now.draft.now
@@ -111,8 +112,8 @@ impl DraftUnderCheck<'_> {
         self.refuse_at(alloc, TaskFault::BranchMisuse, branch)
     }
 
-    /// The source of each task, None for one that isn't expanded; refused for a source (15), a rule (16) or a branch
-    /// (17) that no expansion may have.
+    /// Gives the source of each task's items, None where it isn't expanded. Err for an expansion with a bad source
+    /// (refusal 15), a rule that decides early (16) or of a branch (17), or at want of memory.
     pub(crate) fn check_expansions(
         &self,
         alloc: Global,

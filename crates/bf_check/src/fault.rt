@@ -6,28 +6,28 @@ use bf_value::{OutOfMemory, Sequence, Text};
 use std::error::Error;
 use std::fmt;
 
-/// What is wrong with a task.
+/// Why a draft is refused for one of its tasks.
 #[derive(Clone, Copy, Debug, PartialEq, Eq)]
 pub enum TaskFault {
-    /// An upstream is the id of no task.
+    /// One of its upstreams is no task.
     UnknownUpstream,
     UnknownPool,
     /// It takes more slots than its pool has.
     SlotsBeyondPool,
-    /// Its rule is no trigger rule.
+    /// Its rule isn't a trigger rule.
     BadRule,
-    /// It pulls from a task that needn't be settled when it is decided, or from none.
+    /// It pulls from a task that may be unsettled when it is decided, or from one that doesn't exist.
     PullNotSettled,
-    /// It is expanded over what isn't a direct upstream.
+    /// It is expanded over a task that isn't directly upstream.
     ExpandSource,
-    /// It is expanded under a rule that may decide it before its upstreams are settled.
+    /// It is expanded under a rule that may decide it before its upstreams settle.
     ExpandRule,
-    /// It is a branch and expanded.
+    /// It is both a branch and expanded.
     BranchMisuse,
 }
 
 impl TaskFault {
-    /// The number of the refusal (docs/FORMATS.md), from 6 to 17.
+    /// Gives the number of the refusal in docs/FORMATS.md, from 6 to 17.
     pub fn refusal_number(self) -> u32
         ensures { result ≡ refusal_number_of self }
     {
@@ -50,6 +50,7 @@ impl fmt::Display for TaskFault {
 
     ghost output = { λ fault. Some (task_fault_text fault) };
 
+    /// Writes the fault in words, such as `unknown pool`.
     fn fmt<W: fmt::Write>(&self, f: &mut fmt::Formatter<W>) -> fmt::Result {
         f.write_str(match self {
             TaskFault::UnknownUpstream => "unknown upstream",
@@ -69,22 +70,22 @@ impl Error for TaskFault {}
 /// Why a draft is refused.
 #[derive(Debug, Drop)]
 pub enum CheckFault {
-    /// The task of this id, the first in the file with this fault.
+    /// The first task in the file with this fault, by its id.
     Task(TaskFault, Text),
-    /// The edges have a cycle: each of these tasks is a direct upstream of the next, and the last of the first. It is the shortest
-    /// through the task that comes first in the file of all that lie on one, and begins with that.
+    /// The edges have a cycle: each of these tasks is directly upstream of the next, and the last of the first. It
+    /// begins with the first task in the file that lies on a cycle, and is the shortest through that.
     Cycle(Sequence<Text>),
     /// The schedule is neither a cron expression nor a preset.
     BadCron,
     /// No civil minute matches the schedule.
     NeverFires,
-    /// The zone is none, or its file is missing or can't be read.
+    /// The zone's text means none, or is `file` and the zone file is missing or unreadable.
     BadZone,
     OutOfMemory,
 }
 
 impl CheckFault {
-    /// The number of the refusal (docs/FORMATS.md), 6 to 17; None for want of memory.
+    /// Gives the number of the refusal in docs/FORMATS.md, 6 to 17; None for `OutOfMemory`, which refuses no draft.
     pub fn refusal_number(&self) -> Option<u32>
         ensures { result ≡ check_refusal_number_of self.now }
     {
@@ -105,6 +106,7 @@ impl fmt::Display for CheckFault {
 
     ghost output = { λ fault. Some (fault_text fault) };
 
+    /// Writes the fault in words, with its tasks, such as `unknown pool: load` or `cycle: a b c`.
     fn fmt<W: fmt::Write>(&self, f: &mut fmt::Formatter<W>) -> fmt::Result {
         match self {
             CheckFault::Task(fault, task) => write!(f, "{fault}: {task}"),
@@ -119,7 +121,7 @@ impl fmt::Display for CheckFault {
 
 impl Error for CheckFault {}
 
-/// Texts with one space between each two.
+/// Texts that display with one space between each two.
 #[derive(Clone, Copy)]
 struct Spaced<'a>(&'a Sequence<Text>);
 
@@ -129,6 +131,7 @@ impl fmt::Display for Spaced<'_> {
 
     ghost output = { λ texts. Some (join_with_byte 32 texts.0.now) };
 
+    /// Writes the texts with one space between each two; nothing where there are none.
     fn fmt<W: fmt::Write>(&self, f: &mut fmt::Formatter<W>) -> fmt::Result {
         let [first, rest @ ..] = self.0.as_slice() else {
             return Ok(());
@@ -147,6 +150,7 @@ impl From<OutOfMemory> for CheckFault {
 
     ghost from_gives = { λ _ e. e ≡ OutOfMemory };
 
+    /// Gives `OutOfMemory`.
     fn from(_e: OutOfMemory) -> CheckFault {
         CheckFault::OutOfMemory
     }

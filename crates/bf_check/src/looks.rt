@@ -11,7 +11,7 @@ use bf_read::Draft;
 use bf_value::OutOfMemory;
 use std::alloc::Global;
 
-/// A draft that is checked for faults, with the ids of its tasks and the bytes for the zone `file`.
+/// A draft that is being checked, with the ids of its tasks and the bytes for the zone `file`.
 #[derive(Clone, Copy)]
 pub(crate) struct DraftUnderCheck<'a> {
     pub(crate) ids: &'a Ids,
@@ -20,14 +20,14 @@ pub(crate) struct DraftUnderCheck<'a> {
     ghost of_draft: { ids.now ≡ ids_of draft.now.tasks },
 }
 
-/// The index of the first `None`; None where all are found.
+/// Finds the first `None`, by its index; None where there is none.
 fn first_missing<T>(found: &[Option<T>]) -> Option<usize>
     ensures { result ≡ position is_none found.now }
 {
     found.iter().position(|one| one.is_none())
 }
 
-/// What was found of each task, where nothing is missing.
+/// Takes the value out of each; none of them may be None.
 fn unwrap_all<T: Drop>(alloc: Global, found: Vec<Option<T>>) -> Result<Vec<T>, OutOfMemory>
     requires { position is_none found.items ≡ None }
     ensures { IfOk result (λ all. map Some all.items ≡ found.items) }
@@ -36,8 +36,8 @@ fn unwrap_all<T: Drop>(alloc: Global, found: Vec<Option<T>>) -> Result<Vec<T>, O
 }
 
 impl DraftUnderCheck<'_> {
-    /// Refuses the draft for this fault of the task at the index `place`, the first that has it; does nothing for
-    /// None.
+    /// Gives the Err for this fault of the task at the index `place`, the first that has it, or for want of memory;
+    /// does nothing for None.
     pub(crate) fn refuse_at(
         &self,
         alloc: Global,
@@ -62,7 +62,8 @@ impl DraftUnderCheck<'_> {
         }
     }
 
-    /// What was found of each task; where one has None, refuses the draft for this fault of the first such task.
+    /// Takes out what was found of each task. Err with this fault for the first task that has None, or at want of
+    /// memory.
     pub(crate) fn unwrap_or_refuse<T: Drop>(
         &self,
         alloc: Global,

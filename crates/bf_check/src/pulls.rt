@@ -19,21 +19,21 @@ use bf_rule::Rule;
 use bf_value::{OutOfMemory, Sequence, Text};
 use std::alloc::Global;
 
-/// What a task pulls from, in order of first use.
+/// The tasks that a task pulls from, by id and by number, in order of first use.
 #[derive(Drop)]
 pub(crate) struct Pulls {
     pub(crate) ids: Sequence<Text>,
     pub(crate) numbers: Sequence<u32>,
 }
 
-/// True only where each of `pulls` is one of `tasks`.
+/// Answers whether each of `pulls` is one of `tasks`. Contracts cover only true.
 fn are_among(tasks: &[u32], pulls: &[u32]) -> bool
     ensures { IsTrue result → (u : ℕ) → Contains pulls.now u → Contains tasks.now u }
 {
     pulls.iter().all(|pull| tasks.contains(pull))
 }
 
-/// Whether each of `pulls` reaches `task` by the edges `settling`, and so is settled when `task` is decided.
+/// Answers whether each of `pulls` reaches `task` by the edges `settling`, and so is settled when `task` is decided.
 fn are_settled(
     alloc: Global,
     settling: &[Vec<u32>],
@@ -61,7 +61,8 @@ fn are_settled(
     Ok(true)
 }
 
-/// The upstreams of a task that are settled when it is decided: all where its rule waits for that, else none.
+/// Gives the upstreams that must be settled when a task with this rule is decided: all of them where the rule waits for
+/// that, else none.
 fn settling_upstreams(alloc: Global, rule: Rule, upstreams: &[u32]) -> Result<Vec<u32>, OutOfMemory>
     ensures { IfOk result (λ v. v.items ≡ if is_waiting rule then upstreams.now else []) }
 {
@@ -73,7 +74,8 @@ fn settling_upstreams(alloc: Global, rule: Rule, upstreams: &[u32]) -> Result<Ve
 }
 
 impl DraftUnderCheck<'_> {
-    /// For each task the upstreams that are settled when it is decided: all where its rule waits for that, else none.
+    /// Gives for each task the upstreams that must be settled when it is decided: all of them where its rule waits for
+    /// that, else none.
     fn settling_edges(
         &self,
         alloc: Global,
@@ -91,8 +93,8 @@ impl DraftUnderCheck<'_> {
         Ok(edges)
     }
 
-    /// The ids and numbers of the tasks that the task `t` pulls from; None where one is no task, or needn't be
-    /// settled by the edges `settling` when `t` is decided.
+    /// Gives the tasks that the task `t` pulls from; None where one doesn't exist, or the edges `settling` don't make
+    /// sure that it is settled when `t` is decided.
     fn pulls_of_task(
         &self,
         alloc: Global,
@@ -118,8 +120,8 @@ impl DraftUnderCheck<'_> {
         }))
     }
 
-    /// The ids and numbers of the tasks that each task pulls from; None for a task that pulls from one that is no
-    /// task, or needn't be settled by the edges `settling` when it is decided.
+    /// Gives the tasks that each task pulls from; None for a task that pulls from one which doesn't exist, or which the
+    /// edges `settling` don't make sure is settled by then.
     fn pulls_of_each(
         &self,
         alloc: Global,
@@ -140,7 +142,8 @@ impl DraftUnderCheck<'_> {
         Ok(found)
     }
 
-    /// What each task pulls from; refused where that is no task, or needn't be settled when the task is decided (14).
+    /// Gives the tasks that each task pulls from. Err for a pull from a task that doesn't exist or may be unsettled by
+    /// then (refusal 14), or at want of memory.
     pub(crate) fn check_pulls(
         &self,
         alloc: Global,

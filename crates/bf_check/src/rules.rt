@@ -11,7 +11,7 @@ use bf_rule::Rule;
 use bf_value::OutOfMemory;
 use std::alloc::Global;
 
-/// The rule of each task; None for one whose rule has an unknown name.
+/// Gives each task's rule; None for a task whose rule has an unknown name.
 fn rules_of(alloc: Global, tasks: &[TaskDraft]) -> Result<Vec<Option<Rule>>, OutOfMemory>
     ensures { IfOk result (λ found. found.items ≡ map (λ task. rule_named task.rule) tasks.now) }
 {
@@ -23,7 +23,7 @@ fn rules_of(alloc: Global, tasks: &[TaskDraft]) -> Result<Vec<Option<Rule>>, Out
 }
 
 impl DraftUnderCheck<'_> {
-    /// The rule of each task; refused where a task's rule is no trigger rule (10).
+    /// Gives each task's rule. Err for a rule that isn't a trigger rule (refusal 10), or at want of memory.
     pub(crate) fn check_rules(&self, alloc: Global) -> Result<Vec<Rule>, CheckFault>
         requires { HasNoneBelow self.now.draft.now 10 }
         ensures rules { IfOk result (λ rules. rules.items ≡ map rule_of self.now.draft.now.tasks) }

@@ -11,7 +11,7 @@ use bf_zone::{Zone, ZoneFault};
 use std::alloc::Global;
 
 impl DraftUnderCheck<'_> {
-    /// The schedule of the draft's text; refused where the text is none (11).
+    /// Reads the draft's schedule. Err for a text that is no schedule (refusal 11), or at want of memory.
     fn read_schedule(&self, alloc: Global) -> Result<CronSpec, CheckFault>
         requires { HasNoneBelow self.now.draft.now 11 }
         ensures ok { IfOk result (IsScheduleOf self.now.draft.now.schedule) }
@@ -25,7 +25,8 @@ impl DraftUnderCheck<'_> {
         }
     }
 
-    /// The schedule of a draft; refused where its text is none (11), or no civil minute matches it (12).
+    /// Reads the draft's schedule. Err for a text that is no schedule (refusal 11), one that never fires (12), or at
+    /// want of memory.
     fn check_schedule(&self, alloc: Global) -> Result<CronSpec, CheckFault>
         requires { HasNoneBelow self.now.draft.now 11 }
         ensures ok { IfOk result (Fires self.now.draft.now.schedule) }
@@ -40,7 +41,8 @@ impl DraftUnderCheck<'_> {
         Ok(schedule)
     }
 
-    /// The zone of a draft whose schedule is right; refused where its text means no zone (13).
+    /// Reads the zone of a draft whose schedule is sound. Err for a text that means no zone (refusal 13), or at want of
+    /// memory.
     fn check_zone(&self, alloc: Global) -> Result<Zone, CheckFault>
         requires below { HasNoneBelow self.now.draft.now 13 }
         requires fires { (spec : CronSpec) × Fires self.now.draft.now.schedule spec }
@@ -59,8 +61,8 @@ impl DraftUnderCheck<'_> {
         }
     }
 
-    /// The schedule and its zone; refused for a text that is no schedule (11), one that never fires (12) or no zone
-    /// (13).
+    /// Reads the draft's schedule and zone. Err for a text that is no schedule (refusal 11), a schedule that never
+    /// fires (12), a text that means no zone (13), or at want of memory.
     pub(crate) fn check_schedule_and_zone(
         &self,
         alloc: Global,

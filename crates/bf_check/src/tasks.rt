@@ -17,7 +17,7 @@ use bf_rule::Rule;
 use bf_value::{OutOfMemory, Sequence, Text};
 use std::alloc::Global;
 
-/// The index of an id among the distinct ids `pulled`, of which it is one.
+/// Gives the index of an id among the distinct ids `pulled`, of which it must be one.
 fn place_of_pull(pulled: &[Text], id: &str) -> u32
     requires pulled { Contains pulled.now id.now }
     requires few { length pulled.now ≤ most_pulls }
@@ -26,7 +26,7 @@ fn place_of_pull(pulled: &[Text], id: &str) -> u32
     place_of(pulled, id).unwrap() as u32
 }
 
-/// The word of a plan's command; a pull is told by its index in `pulled`, the distinct ids that the command pulls
+/// Makes a word of a plan's command; a pull becomes an index into `pulled`, the distinct ids that the command pulls
 /// from.
 fn word_of(pulled: &[Text], word: WordDraft) -> Word
     requires pulled { (id : List ℕ) → pulled_by word ≡ Some id → Contains pulled.now id }
@@ -41,8 +41,8 @@ fn word_of(pulled: &[Text], word: WordDraft) -> Word
     }
 }
 
-/// The words of a plan's command, in order; a pull is told by its index in `pulled`, the ids that the command pulls
-/// from.
+/// Makes the words of a plan's command, in order; a pull becomes an index into `pulled`, the distinct ids that the
+/// command pulls from.
 fn words_of(
     alloc: Global,
     pulled: &[Text],
@@ -59,7 +59,7 @@ fn words_of(
     Ok(words)
 }
 
-/// What is found of a task beside what its draft says.
+/// What was found of a task beside its draft.
 #[derive(Drop)]
 struct Links {
     upstreams: Sequence<u32>,
@@ -68,7 +68,7 @@ struct Links {
     source: Option<u32>,
 }
 
-/// The task of a plan: its draft, with upstreams, rule, pulls and source as `links` has them.
+/// Makes a plan's task of its draft, with the upstreams, rule, pulls and source of `links`.
 fn task_of(alloc: Global, draft: TaskDraft, links: Links) -> Result<Task, OutOfMemory>
     requires task { IsTask draft }
     requires pulled { links.pulls.ids ≡ pulled_in draft.command }
@@ -90,8 +90,8 @@ fn task_of(alloc: Global, draft: TaskDraft, links: Links) -> Result<Task, OutOfM
     })
 }
 
-/// The links of the task numbered `task`: its upstreams in `graph`, its rule and its source by this number, and
-/// `pulls`, which are its own.
+/// Gathers the links of the task numbered `task`: its upstreams in `graph`, its rule and source from those of all
+/// tasks, and its own `pulls`.
 fn links_of(
     alloc: Global,
     graph: &Graph,
@@ -117,7 +117,7 @@ fn links_of(
     })
 }
 
-/// The tasks of a plan, in file order, each its draft joined with its rule, pulls and source.
+/// Makes the tasks of a plan, in file order, each of its draft and its upstreams, rule, pulls and source.
 pub(crate) fn tasks_of(
     alloc: Global,
     drafts: Sequence<TaskDraft>,

@@ -14,6 +14,7 @@ use Rattle.bf_interval.specs.Runs.{AreOfRuns}
 use Rattle.bf_plan.specs.declared.plan.Task.{Task}
 use Rattle.bf_plan.specs.Plans.{no_task}
 use Rattle.bf_plan.specs.Sound.{IsNamed}
+use Rattle.bf_plan.proofs.PlanLemmas.{own_place}
 use Rattle.bf_core.specs.Terms.{Dag, Given, JobName, Ledger}
 use Rattle.bf_core.specs.Agreement.{HoldsItsTries}
 use Rattle.bf_report.specs.declared.report.Version.{Version}
@@ -72,36 +73,6 @@ ids_are_shown dag [] j interval e = cc
 ids_are_shown dag (i ∷ is) j interval e = refl
 
 -- ---- tasks
-
--- the id of a task stands in its place
-own_place : (tasks : List Task) → AreDistinct (map (λ task. task.id) tasks) → (t : ℕ) → t < length tasks → position (bytes_eq (get_or tasks t no_task).id) (map (λ task. task.id) tasks) ≡ Some t
-own_place tasks distinct t low =
-    (λ k. cond (nat_lt (place k) (length ids)) (Some (place k)) None) ∙ ap (λ b. cond b (Some t) None) there
-  where
-    ids : List (List ℕ)
-    ids = map (λ task. task.id) tasks
-
-    id : List ℕ
-    id = (get_or tasks t no_task).id
-
-    within : t < length ids
-    within = omega (arith, low, length-map tasks (λ (task : Task). task.id))
-
-    at : get_or ids t [] ≡ id
-    at = get_or-map (λ (task : Task). task.id) tasks t no_task [] low
-
-    other : (k : ℕ) → k < t → (b : Bool) → bytes_eq id (get_or ids k []) ≡ b → bytes_eq id (get_or ids k []) ≡ false
-    other k lt false e = e
-    other k lt true e = absurd (distinct k t [] lt within (sym ((bytes_eq-Decides id (get_or ids k [])).0 e) ∙ sym at))
-
-    fails : (k : ℕ) → k < t → bytes_eq id (get_or ids k []) ≡ false
-    fails k lt = other k lt (bytes_eq id (get_or ids k [])) refl
-
-    place : position_or_len (bytes_eq id) ids ≡ t
-    place = position_or_len_is (bytes_eq id) ids t [] (omega (arith, within)) fails (λ _. (bytes_eq-Decides id (get_or ids t [])).1 (sym at))
-
-    there : nat_lt t (length ids) ≡ true
-    there = grind (arith, within)
 
 same_tasks : (dag : Dag) → IsNamed dag → (tasks : List TaskReport) → length tasks ≡ length dag.tasks → (t : ℕ) → slice_get (tasks_told dag (map (λ task. task.id) dag.tasks) tasks) t ≡ slice_get tasks t
 same_tasks dag named tasks long t = by (nat_lt t (length dag.tasks)) refl

@@ -17,7 +17,7 @@ use bf_xcom::RunState;
 use std::alloc::Global;
 use std::mem;
 
-/// The index of a task's id among `ids`; None where it is none of them.
+/// The place of a task's id in `ids`, from 0; None where it isn't one of them.
 fn place_of(ids: &[Text], task: &Task) -> Option<usize>
     ensures { result ≡ position (bytes_eq task.now.id) ids.now }
 {
@@ -25,7 +25,7 @@ fn place_of(ids: &[Text], task: &Task) -> Option<usize>
     ids.iter().position(|known| id == known.as_str())
 }
 
-/// For each task the index of its id among `ids`; None where it is none of them.
+/// For each of these tasks, in order, the place of its id in `ids`, from 0; None where it isn't one of them.
 fn places_of(alloc: Global, ids: &[Text], tasks: &[Task]) -> Result<Vec<Option<usize>>, OutOfMemory>
     ensures { IfOk result (λ places. places.items
         ≡ map (λ task. position (bytes_eq task.id) ids.now) tasks.now) }
@@ -48,7 +48,8 @@ fn ids_of(alloc: Global, tasks: &[Task]) -> Result<Sequence<Text>, OutOfMemory>
     Ok(Sequence::from_vec(ids))
 }
 
-/// What is told of the task at the index `place`, which is left as no_status; no_status for None, or past the end.
+/// Takes out what a report has of the task at `place`, from 0, and leaves no_status there. Gives no_status where
+/// `place` is None or past the end.
 fn take_task_at(tasks: &mut Sequence<TaskReport>, place: Option<usize>) -> TaskReport
     ensures told { result ≡ told_at tasks.old place }
     ensures others { (other : Option ℕ) → (place ≡ other → place ≡ None)
@@ -60,8 +61,8 @@ fn take_task_at(tasks: &mut Sequence<TaskReport>, place: Option<usize>) -> TaskR
     }
 }
 
-/// What is told of each task of a plan, no_status where nothing is; `places` has the index of each among `told`, the
-/// tasks of a report's run.
+/// What `told`, the tasks of a report's run, has at each of these places, in order; no_status where a place is None or
+/// past the end. No place occurs twice, but None may.
 fn tasks_at_places(
     alloc: Global,
     places: &[Option<usize>],
@@ -77,7 +78,7 @@ fn tasks_at_places(
     Ok(Sequence::from_vec(tasks))
 }
 
-/// The index of the run over a data interval; None where no run is over it.
+/// The place of the first run over a data interval, from 0; None where no run is over it.
 fn place_over(runs: &[RunReport], interval: &Interval) -> Option<usize>
     ensures { result ≡ position (is_over interval.now) runs.now }
 {
@@ -85,7 +86,7 @@ fn place_over(runs: &[RunReport], interval: &Interval) -> Option<usize>
         .position(|run| is_same_interval(&run.interval, interval))
 }
 
-/// Takes the tasks out of the run over a data interval, which is left without; none where there is no such run.
+/// Takes the tasks out of the run over a data interval, which is left without any. Empty where no run is over it.
 fn take_tasks(alloc: Global, runs: &mut Vec<RunReport>, interval: &Interval) -> Sequence<TaskReport>
     ensures told { result ≡ tasks_at runs.old.items interval.now }
     ensures others { (other : Interval) → other.start.nanosecond ≢ interval.now.start.nanosecond
@@ -97,8 +98,8 @@ fn take_tasks(alloc: Global, runs: &mut Vec<RunReport>, interval: &Interval) -> 
     }
 }
 
-/// A run over each of these data intervals, in order, with what `told` has of its tasks; `places` has the index of
-/// each task among those of `told`.
+/// A run over each of these data intervals, in order, with the tasks that `told` has in its run over the same interval.
+/// `places` says where each of the plan's tasks stands in the runs of `told`; a task that `told` lacks is no_status.
 fn runs_over(
     alloc: Global,
     places: &[Option<usize>],
@@ -123,9 +124,9 @@ fn runs_over(
     Ok(Sequence::from_vec(runs))
 }
 
-/// What a report tells of the tasks of a plan, by their ids, and of these runs, by their data intervals, whatever
-/// tasks and runs the report has besides; no_status where it tells nothing. The states of runs aren't told: each is
-/// failed. No value is copied.
+/// Brings a report into the shape of a plan and these runs: it finds tasks by their ids and runs by their data
+/// intervals, leaves out all others, and puts no_status for what the report lacks. The states of the new runs mean
+/// nothing. No value is copied.
 pub(crate) fn align(
     alloc: Global,
     plan: &Plan,

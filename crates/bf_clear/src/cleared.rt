@@ -13,7 +13,8 @@ use bf_xcom::Given;
 use std::alloc::Global;
 use std::marker::Model;
 
-/// What is kept of a report where instances are cleared. Contracts see the tasks, what is cleared, and the report.
+/// What is kept of a report while some of its instances are cleared. Contracts see the plan's tasks, what is cleared,
+/// and the report.
 #[derive(Drop)]
 pub struct Cleared<'a> {
     plan: &'a Plan,
@@ -41,7 +42,7 @@ impl<'a> Model for Cleared<'a> {
 }
 
 impl<'a> Cleared<'a> {
-    /// What is kept of a report: all but what `cleared` has.
+    /// Keeps of a report all but the instances of `cleared`.
     pub(crate) fn new(plan: &'a Plan, report: Report, cleared: Followers) -> Cleared<'a>
         ensures { result ≡ record { dag = plan.entry.now.dag; cleared = cleared; report = report } }
     {
@@ -52,7 +53,7 @@ impl<'a> Cleared<'a> {
         }
     }
 
-    /// Which instances are cleared.
+    /// The instances that are cleared.
     pub fn followers(&self) -> &Followers
         ensures { result.now ≡ self.now.cleared }
     {
@@ -65,8 +66,8 @@ impl KeptTries for Cleared<'_> {
 
     ghost kept = { λ s. kept_in s };
 
-    /// The answer by which a try ends as the report tells; None where it is cleared, not told, or was given something
-    /// else, or its outcome doesn't fit the plan.
+    /// The answer by which try `name` ends as the report says. None where its instance is cleared, the report has no
+    /// such try, it was given anything but `given`, or its outcome is one that the plan doesn't allow.
     fn answer(
         &self,
         alloc: Global,

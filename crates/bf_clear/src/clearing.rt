@@ -17,8 +17,8 @@ use bf_report::Report;
 use bf_value::OutOfMemory;
 use std::alloc::Global;
 
-/// What is kept of a report, whose tasks and runs are those of the plan, where these places are cleared with all that
-/// follows from them.
+/// What is kept of a report, which has the plan's tasks and these runs, where these places and all that follows from
+/// them are cleared.
 fn clear_places_within<'a>(
     alloc: Global,
     plan: &'a Plan,
@@ -38,10 +38,9 @@ fn clear_places_within<'a>(
     Ok(Cleared::new(plan, report, cleared))
 }
 
-/// What is kept of the report of a backfill of the graph, whatever tasks and runs that had, where these places are
-/// cleared with all that follows from them: every other try that the report tells of, by the data interval of its
-/// run, the id of its task, its map index and its number, but for outcomes that the plan doesn't allow.
-/// `ReportMismatch` for a report of another graph.
+/// What is kept of a report of this graph, whatever tasks and runs it has, where these places and all that follows from
+/// them are cleared: each other try whose outcome the plan allows, found by its data interval, task id, map index and
+/// number. `ReportMismatch` where the report has another dag id, `OutOfMemory` where memory ran out.
 pub fn clear_places_by_ids<'a>(
     alloc: Global,
     plan: &'a Plan,
@@ -65,10 +64,9 @@ pub fn clear_places_by_ids<'a>(
     Ok(kept)
 }
 
-/// What is kept of a report where these places are cleared with all that follows from them: their downstreams and,
-/// where a cleared task depends on its past, that task in the next run. The rest is kept, but for outcomes that the
-/// plan doesn't allow; without places nothing is cleared. `ReportMismatch` for a report that isn't one of the plan
-/// over these runs.
+/// What is kept of a report where these places and all that follows from them are cleared, downstream and, for tasks
+/// that depend on their past, in later runs: each other try whose outcome the plan allows. `ReportMismatch` where the
+/// report isn't one of this plan and these runs, `OutOfMemory` where memory ran out.
 pub fn clear_places<'a>(
     alloc: Global,
     plan: &'a Plan,

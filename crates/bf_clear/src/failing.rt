@@ -14,10 +14,10 @@ use bf_value::{JobName, OutOfMemory};
 use bf_xcom::Outcome;
 use std::alloc::Global;
 
-/// How many instances of a task a map index can name.
+/// How many instances of a task a map index can name: 2^31.
 const MOST_INSTANCES: usize = 2_147_483_648;
 
-/// Whether the last try of an instance failed.
+/// Whether an instance failed: its last try did.
 fn has_failed(alloc: Global, instance: &InstanceReport) -> Result<bool, OutOfMemory>
     ensures { IfOk result (λ failed. failed ≡ is_failed instance.now.result.outcome) }
 {
@@ -37,7 +37,8 @@ fn first_try(run: u32, task: u32, index: i32) -> JobName
     }
 }
 
-/// Adds the place of the instance that `name` is a try of, where the report tells that it failed.
+/// Adds the place of the instance that `name` is a try of where the report says that it failed; adds nothing where it
+/// didn't, or the report lacks it.
 fn add_failed(
     alloc: Global,
     report: &Report,
@@ -61,7 +62,8 @@ fn add_failed(
     Ok(())
 }
 
-/// How many instances an expanded task has in a run of a report, at most 2^31; 0 for any other task, or none.
+/// How many instances task number `task` has in run number `run` where it ran expanded, at most 2^31; 0 where it
+/// didn't, or the report lacks it.
 fn instance_count_at(report: &Report, run: u32, task: u32) -> usize
     ensures count { result ≡ count_at report.now run task }
     ensures few { result ≤ 2_147_483_648 }
@@ -72,7 +74,8 @@ fn instance_count_at(report: &Report, run: u32, task: u32) -> usize
     }
 }
 
-/// Adds the places of the failed instances of a task in a run, by map index.
+/// Adds the places of the failed instances of task number `task` in run number `run`, by map index; adds nothing where
+/// the report has no such task or run.
 fn add_failed_of_task(
     alloc: Global,
     report: &Report,
@@ -90,7 +93,7 @@ fn add_failed_of_task(
     Ok(())
 }
 
-/// Adds the places of the failed instances of the first `tasks` tasks in a run, in file order.
+/// Adds the places of the failed instances of the first `tasks` tasks in run number `run`, in file order.
 fn add_failed_of_run(
     alloc: Global,
     report: &Report,
@@ -107,7 +110,7 @@ fn add_failed_of_run(
     Ok(())
 }
 
-/// The places of the failed instances of the first `tasks` tasks in the first `runs` runs, by run and task.
+/// The places of the failed instances of the first `tasks` tasks in the first `runs` runs, by run, task and map index.
 fn failed_in(
     alloc: Global,
     report: &Report,
@@ -123,8 +126,8 @@ fn failed_in(
     Ok(found)
 }
 
-/// The instances whose last try failed, of the tasks of a plan in these runs, by run, task and map index. Takes time
-/// over the report.
+/// The places of the instances that failed, of the plan's tasks in these runs, by run, task and map index. Takes time
+/// over the whole report.
 pub fn failed_places(
     alloc: Global,
     plan: &Plan,

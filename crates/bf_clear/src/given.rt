@@ -6,10 +6,10 @@ use crate::looking::task_at;
 use bf_plan::Dag;
 use bf_report::{InstanceReport, Report, TaskReport};
 use bf_value::{JobName, OutOfMemory, Sequence, Xval, copy_option};
-use bf_xcom::{Given, Pulled, TaskResult, TaskValue, pull};
+use bf_xcom::{Given, SharedValue, TaskResult, TaskValue, pull};
 use std::alloc::Global;
 
-/// The results of these instances, by map index.
+/// The results of these instances, in order.
 fn results_of(
     alloc: Global,
     instances: &[InstanceReport],
@@ -23,7 +23,7 @@ fn results_of(
     Ok(Sequence::from_vec(results))
 }
 
-/// The value that a task had in a run, by what a report has of it: blocked for no_status.
+/// The value of a task in a run, by what a report has of it; blocked where that is no_status.
 pub fn value_of(alloc: Global, task: &TaskReport) -> Result<TaskValue, OutOfMemory>
     ensures { IfOk result (λ value. value ≡ value_in task.now) }
 {
@@ -42,7 +42,8 @@ pub fn value_of(alloc: Global, task: &TaskReport) -> Result<TaskValue, OutOfMemo
     }
 }
 
-/// The value of a task in a run of a report; blocked where the report has no such run or task.
+/// The value of task number `task` in run number `run`, by what a report has of it; blocked where it has no such run or
+/// task.
 fn value_at(alloc: Global, report: &Report, run: u32, task: u32) -> Result<TaskValue, OutOfMemory>
     ensures { IfOk result (λ value. value ≡ value_reported_at report.now run task) }
 {
@@ -52,7 +53,8 @@ fn value_at(alloc: Global, report: &Report, run: u32, task: u32) -> Result<TaskV
     }
 }
 
-/// What a pull from the task `source` gave in a run, by the values of a report; None where that pushed nothing.
+/// The value that a pull from task number `source` gives in run number `run`, by the values of a report. None where
+/// that task pushed nothing, or the graph has no such task.
 fn pulled_from(
     alloc: Global,
     dag: &Dag,
@@ -71,25 +73,25 @@ fn pulled_from(
     }
 }
 
-/// What the pulls from the tasks `sources` gave in a run, in order, by the values of a report.
+/// The values that pulls from the tasks `sources` give in run number `run`, in order, by the values of a report.
 fn all_pulled(
     alloc: Global,
     dag: &Dag,
     report: &Report,
     run: u32,
     sources: &[u32],
-) -> Result<Sequence<Pulled>, OutOfMemory>
+) -> Result<Sequence<SharedValue>, OutOfMemory>
     ensures { IfOk result (λ values. values ≡ map (pull_from dag.now report.now run) sources.now) }
 {
     let mut values = Vec::with_capacity(alloc, sources.len())?;
     for source in sources {
         let value = pulled_from(alloc, dag, report, run, *source)?;
-        values.push(Pulled::new(alloc, value)?)?;
+        values.push(SharedValue::new(alloc, value)?)?;
     }
     Ok(Sequence::from_vec(values))
 }
 
-/// The item of a map index in the list `items`; None where that is no list, or has no such item.
+/// The item that `items`, a list, has at map index `index`; None where it isn't a list or has no such item.
 fn item_of(alloc: Global, items: &Option<Xval>, index: i32) -> Result<Option<Xval>, OutOfMemory>
     ensures { IfOk result (λ item. item ≡ item_in items.now index) }
 {
@@ -101,8 +103,8 @@ fn item_of(alloc: Global, items: &Option<Xval>, index: i32) -> Result<Option<Xva
     }
 }
 
-/// What the values of a report give the instance that `name` is a try of: its item and its pulled values. None where
-/// its source gives no such item, or a task that isn't expanded has no such index.
+/// What the instance that `name` is a try of gets by the values of a report: its item and its pulled values. None where
+/// there is no such instance: the task isn't expanded and the map index isn't -1, or its source gives no such item.
 #[tactic(auto, unfolding(crate::specs::Entries::given_by_values_in))]
 fn given_by_values(
     alloc: Global,
@@ -133,7 +135,8 @@ fn given_by_values(
     }
 }
 
-/// Whether `given` is just what the values of a report give the instance that `name` is a try of.
+/// Whether the instance that `name` is a try of gets exactly `given` by the values of a report; false where by these
+/// there is no such instance.
 pub(crate) fn is_given_by_values(
     alloc: Global,
     dag: &Dag,

@@ -18,7 +18,7 @@ ghost use Rattle.bf_clear.specs.Entries.{told};
 ghost use Rattle.bf_clear.specs.Keeping.{AreKept};
 ghost use Rattle.bf_clear.specs.Matching.{is_report_in};
 
-/// A law: the report of a backfill that has ended tells of the entries of its ledger, and of no other.
+/// A law: the report of a backfill that has ended tells exactly the entries of its ledger.
 pub fn reports_tell_ledgers()
     ensures { (dag : Dag) (intervals : List Interval) (ledger : Ledger)
         → HoldsItsTries dag (length intervals) ledger →
@@ -26,8 +26,8 @@ pub fn reports_tell_ledgers()
         → told dag report n ≡ ledger n }
 {}
 
-/// A law: a backfill that goes on from what is kept of the report of another has the entries of that one, but for
-/// what is cleared with the seeds.
+/// A law: a backfill that goes on from what is kept of another's report has the same entries as that one for all tries
+/// but those that are cleared with the seeds.
 pub fn resumed_backfills_keep_the_rest()
     ensures { (dag : Dag) → IsSound dag
         → (intervals : List Interval) (seeds : List Place) (was kept resumed : Ledger)
@@ -38,15 +38,16 @@ pub fn resumed_backfills_keep_the_rest()
         (n : JobName) → IsBeside dag seeds n → resumed n ≡ was n }
 {}
 
-/// A law: the report of a backfill of a plan over data intervals is one of that plan over them (`is_report_of`).
+/// A law: the report of a backfill of a plan over data intervals is one of this plan over them, as `is_report_of`
+/// decides.
 pub fn own_reports_match()
     ensures { (dag : Dag) → IsSound dag
         → (intervals : List Interval) (ledger : Ledger) (report : Report) →
         IsDated dag intervals ledger report → is_report_in dag intervals report ≡ true }
 {}
 
-/// A law: a report that was aligned with other data intervals (`align`) tells, in each run over a data interval of
-/// its own backfill, just the entries of that backfill's ledger.
+/// A law: a report brought into the shape of other data intervals, by `align`, still tells exactly the entries of its
+/// own backfill's ledger, in each run over one of that backfill's data intervals.
 pub fn kept_reports_tell_ledgers()
     ensures { (dag : Dag) → IsNamed dag → (before intervals : List Interval)
         → AreOfRuns before → (ledger : Ledger) → HoldsItsTries dag (length before) ledger →

@@ -5,7 +5,7 @@ ghost use Rattle.bf_clear.specs.Entries.{found_at, instance_in, report_at};
 use bf_report::{InstanceReport, Report, TaskReport};
 use bf_value::JobName;
 
-/// The instance of a map index, -1 for a task that isn't expanded; None where the task has no such instance.
+/// The instance of map index `index`, -1 for a task that isn't expanded; None where the task has no such instance.
 fn instance_of(task: &TaskReport, index: i32) -> Option<&InstanceReport>
     ensures { option_copied result ≡ instance_in task.now index }
 {
@@ -16,7 +16,7 @@ fn instance_of(task: &TaskReport, index: i32) -> Option<&InstanceReport>
     }
 }
 
-/// What a report has of a task in a run; None where it has no such run or task.
+/// Task number `task` in run number `run`, both from 0, as a report has it; None where it has no such run or task.
 pub fn task_at(report: &Report, run: u32, task: u32) -> Option<&TaskReport>
     ensures { option_copied result ≡ report_at report.now run task }
 {
@@ -26,7 +26,7 @@ pub fn task_at(report: &Report, run: u32, task: u32) -> Option<&TaskReport>
     }
 }
 
-/// The instance that a try is of, in a report; None where the report has no such run, task or instance.
+/// The instance that try `name` is of, as a report has it; None where it has no such run, task or instance.
 pub(crate) fn instance_at(report: &Report, name: JobName) -> Option<&InstanceReport>
     ensures { option_copied result ≡ found_at report.now name.run name.task name.index }
 {

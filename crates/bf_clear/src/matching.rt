@@ -9,7 +9,7 @@ use bf_plan::{Dag, Task};
 use bf_report::{InstanceReport, Pull, Report, RunReport, TaskReport, Version};
 use bf_value::Text;
 
-/// Whether there is a task, and it has this id.
+/// Whether `task` is a task with this id; false where it is None.
 fn has_id(task: Option<&Task>, id: &Text) -> bool
     ensures { result ≡ has_id_in (option_copied task.entry) id.now }
 {
@@ -19,7 +19,8 @@ fn has_id(task: Option<&Task>, id: &Text) -> bool
     }
 }
 
-/// Whether each id is that of the task at its index, as far as both lists go.
+/// Whether each of these ids is that of the task at its place; what is past the end of the shorter list isn't looked
+/// at.
 fn each_has_id(ids: &[Text], tasks: &[Task]) -> bool
     ensures { result ≡ list_all (λ p. has_id_in (Some p.1) p.0) (zip ids.now tasks.now) }
 {
@@ -28,21 +29,22 @@ fn each_has_id(ids: &[Text], tasks: &[Task]) -> bool
         .all(|(id, task)| has_id(Some(task), id))
 }
 
-/// Whether these are the ids of these tasks, as many and in order.
+/// Whether these are exactly the ids of these tasks, in the same order.
 fn are_ids_of(ids: &[Text], tasks: &[Task]) -> bool
     ensures { result ≡ are_ids_in ids.now tasks.now }
 {
     ids.len() == tasks.len() && each_has_id(ids, tasks)
 }
 
-/// Whether a pull is from the task of the number `source`; false where there is no such task.
+/// Whether a pull is from task number `source`; false where the graph has no such task.
 fn is_pull_of(dag: &Dag, pull: &Pull, source: u32) -> bool
     ensures { result ≡ is_pull_in dag.now pull.now source }
 {
     has_id(dag.tasks.get(source as usize), &pull.task)
 }
 
-/// Whether each pull is from the task whose number `sources` has at its index, as far as both lists go.
+/// Whether each pull is from the task whose number is at its place in `sources`; what is past the end of the shorter
+/// list isn't looked at.
 fn each_is_pull_of(dag: &Dag, pulls: &[Pull], sources: &[u32]) -> bool
     ensures { result ≡ list_all (λ p. is_pull_in dag.now p.0 p.1) (zip pulls.now sources.now) }
 {
@@ -52,7 +54,7 @@ fn each_is_pull_of(dag: &Dag, pulls: &[Pull], sources: &[u32]) -> bool
         .all(|(pull, source)| is_pull_of(dag, pull, *source))
 }
 
-/// Whether an instance has the pulls of its task, as many and in order.
+/// Whether an instance has exactly the pulls that `task` makes, in the same order.
 fn has_pulls_of(dag: &Dag, task: &Task, instance: &InstanceReport) -> bool
     ensures { result ≡ has_pulls_in dag.now task.now instance.now }
 {
@@ -61,7 +63,7 @@ fn has_pulls_of(dag: &Dag, task: &Task, instance: &InstanceReport) -> bool
     pulls.len() == sources.len() && each_is_pull_of(dag, pulls, sources)
 }
 
-/// Whether each of these instances has the pulls of the task.
+/// Whether each of these instances has exactly the pulls that `task` makes, in the same order.
 fn have_pulls_of(dag: &Dag, task: &Task, instances: &[InstanceReport]) -> bool
     ensures { result ≡ list_all (has_pulls_in dag.now task.now) instances.now }
 {
@@ -70,8 +72,9 @@ fn have_pulls_of(dag: &Dag, task: &Task, instances: &[InstanceReport]) -> bool
         .all(|instance| has_pulls_of(dag, task, instance))
 }
 
-/// Whether a report's task has, in version 2, the pulls of this task in each instance; true in version 1.
-fn is_task_of(version: Version, dag: &Dag, report: &TaskReport, task: &Task) -> bool
+/// Whether what a report of this version has of a task fits `task`: in version 2 each of its instances has the pulls
+/// that `task` makes. Always true in version 1, which has no pulls.
+fn task_fits(version: Version, dag: &Dag, report: &TaskReport, task: &Task) -> bool
     ensures { result ≡ is_task_in version dag.now report.now task.now }
 {
     match (version, report) {
@@ -83,7 +86,8 @@ fn is_task_of(version: Version, dag: &Dag, report: &TaskReport, task: &Task) -> 
     }
 }
 
-/// Whether each reported task has the pulls of the task at its index (`is_task_of`), as far as both lists go.
+/// Whether what a report of this version has of each task fits the one at its place in `tasks`, by `task_fits`; what is
+/// past the end of the shorter list isn't looked at.
 fn each_is_task_of(version: Version, dag: &Dag, reports: &[TaskReport], tasks: &[Task]) -> bool
     ensures { result ≡ list_all (λ p. is_task_in version dag.now p.0 p.1)
         (zip reports.now tasks.now) }
@@ -91,57 +95,60 @@ fn each_is_task_of(version: Version, dag: &Dag, reports: &[TaskReport], tasks: &
     reports
         .iter()
         .zip(tasks)
-        .all(|(report, task)| is_task_of(version, dag, report, task))
+        .all(|(report, task)| task_fits(version, dag, report, task))
 }
 
-/// Whether a run has as many tasks as a graph and, in version 2, each with the pulls of the graph's.
-fn are_tasks_of(version: Version, dag: &Dag, reports: &[TaskReport]) -> bool
+/// Whether the tasks of a run, in a report of this version, fit the graph: they are as many as its tasks and, in
+/// version 2, their instances have the pulls that these make.
+fn tasks_fit(version: Version, dag: &Dag, reports: &[TaskReport]) -> bool
     ensures { result ≡ are_tasks_in version dag.now reports.now }
 {
     let tasks = dag.tasks.as_slice();
     reports.len() == tasks.len() && each_is_task_of(version, dag, reports, tasks)
 }
 
-/// Whether two data intervals start and end alike.
+/// Whether two data intervals have the same start and the same end.
 pub(crate) fn is_same_interval(one: &Interval, other: &Interval) -> bool
     ensures { result ≡ is_same_interval_in one.now other.now }
 {
     one.start == other.start && one.end == other.end
 }
 
-/// Whether a run is over this data interval and has the tasks of a graph (`are_tasks_of`).
-fn is_run_of(version: Version, dag: &Dag, run: &RunReport, interval: &Interval) -> bool
+/// Whether a run of a report of this version is over this data interval, and its tasks fit the graph, by `tasks_fit`.
+fn run_fits(version: Version, dag: &Dag, run: &RunReport, interval: &Interval) -> bool
     ensures { result ≡ is_run_in version dag.now run.now interval.now }
 {
-    is_same_interval(&run.interval, interval) && are_tasks_of(version, dag, run.tasks.as_slice())
+    is_same_interval(&run.interval, interval) && tasks_fit(version, dag, run.tasks.as_slice())
 }
 
-/// Whether each run is over the data interval at its index and has the tasks of a graph, as far as both lists go.
+/// Whether each run is over the data interval at its place, with tasks that fit the graph; what is past the end of the
+/// shorter list isn't looked at.
 fn each_is_run_of(version: Version, dag: &Dag, runs: &[RunReport], intervals: &[Interval]) -> bool
     ensures { result ≡ list_all (λ p. is_run_in version dag.now p.0 p.1)
         (zip runs.now intervals.now) }
 {
     runs.iter()
         .zip(intervals)
-        .all(|(run, interval)| is_run_of(version, dag, run, interval))
+        .all(|(run, interval)| run_fits(version, dag, run, interval))
 }
 
-/// Whether there are as many runs as data intervals, each over the one at its index and with the tasks of a graph.
-fn are_runs_of(version: Version, dag: &Dag, runs: &[RunReport], intervals: &[Interval]) -> bool
+/// Whether there are as many runs as data intervals, each over the one at its place and with tasks that fit the graph.
+fn runs_fit(version: Version, dag: &Dag, runs: &[RunReport], intervals: &[Interval]) -> bool
     ensures { result ≡ are_runs_in version dag.now runs.now intervals.now }
 {
     runs.len() == intervals.len() && each_is_run_of(version, dag, runs, intervals)
 }
 
-/// Whether a report has the dag id of a graph. Its tasks and runs may be any.
+/// Whether a report has the dag id of the graph; its tasks and runs aren't looked at.
 pub(crate) fn is_of_dag(dag: &Dag, report: &Report) -> bool
     ensures { result ≡ bytes_eq report.now.dag_id dag.now.id }
 {
     report.dag_id.as_str() == dag.id.as_str()
 }
 
-/// Whether a report has the dag id, the data intervals and the tasks of a plan, and in version 2 the pulls of each
-/// instance. One without runs has no tasks.
+/// Whether a report is one of this graph over these data intervals: it has the same dag id, the same data intervals
+/// and, unless there are none, the same task ids, each in order; and in version 2 each instance has the pulls of its
+/// task.
 #[tactic(auto, unfolding(crate::specs::Matching::is_report_in))]
 pub fn is_report_of(dag: &Dag, intervals: &[Interval], report: &Report) -> bool
     ensures { result ≡ is_report_in dag.now intervals.now report.now }
@@ -149,5 +156,5 @@ pub fn is_report_of(dag: &Dag, intervals: &[Interval], report: &Report) -> bool
     let tasks = dag.tasks.as_slice();
     is_of_dag(dag, report)
         && (intervals.is_empty() || are_ids_of(report.tasks.as_slice(), tasks))
-        && are_runs_of(report.version, dag, report.runs.as_slice(), intervals)
+        && runs_fit(report.version, dag, report.runs.as_slice(), intervals)
 }

@@ -8,11 +8,11 @@ use bf_plan::Plan;
 use bf_report::{InstanceReport, Pull, Report, Version};
 use bf_try::{Outcome, Raw, answer_for, fits};
 use bf_value::{JobName, OutOfMemory, is_same_option};
-use bf_xcom::{Given, Pulled, TaskResult};
+use bf_xcom::{Given, SharedValue, TaskResult};
 use std::alloc::Global;
 
-/// Whether these pulls gave just these values, as many and in order.
-fn are_pulled(pulls: &[Pull], values: &[Pulled]) -> bool
+/// Whether these pulls found exactly these values, in the same order.
+fn are_pulled(pulls: &[Pull], values: &[SharedValue]) -> bool
     ensures { IsTrue result ↔ (map (λ p. p.value) pulls.now ≡ values.now) }
 {
     if pulls.len() != values.len() {
@@ -26,7 +26,7 @@ fn are_pulled(pulls: &[Pull], values: &[Pulled]) -> bool
     true
 }
 
-/// Whether an instance of a report of version 2 has just this item and these pulled values.
+/// Whether an instance in a report of version 2 was given exactly the item and the pulled values of `given`.
 fn tells_given(instance: &InstanceReport, given: &Given) -> bool
     ensures { IsTrue result ↔ (given_in instance.now ≡ given.now) }
 {
@@ -34,8 +34,8 @@ fn tells_given(instance: &InstanceReport, given: &Given) -> bool
         && are_pulled(instance.pulls(), given.pulled.as_slice())
 }
 
-/// Whether the instance that `name` is a try of was given just `given`: as a report of version 2 tells, and in
-/// version 1 as the report's values give it.
+/// Whether the instance that `name` is a try of was given exactly `given`: in version 2 as the report says, in version
+/// 1 by the report's values of other tasks.
 fn was_given(
     alloc: Global,
     plan: &Plan,
@@ -55,8 +55,8 @@ fn was_given(
     }
 }
 
-/// An answer by which the try numbered `attempt`, from 1, of an instance ends as it did: failed for each but the
-/// last. None where it wasn't made, or its outcome doesn't fit the plan.
+/// An answer by which try `attempt`, from 1, of an instance ends as it did; each try but the last failed. None where
+/// the instance had no such try, or ended in a way that the plan doesn't allow.
 #[tactic(auto, unfolding(bf_try::specs::Grades::fits_in))]
 fn answer_of_try(
     alloc: Global,
@@ -81,8 +81,8 @@ fn answer_of_try(
     Ok(None)
 }
 
-/// An answer by which the try `name` of an instance ends as it did; None where it was given something else than
-/// `given`, wasn't made, or its outcome doesn't fit the plan.
+/// An answer by which try `name` of an instance ends as it did. None where the instance was given anything but `given`,
+/// had no such try, or ended in a way that the plan doesn't allow.
 pub(crate) fn answer_of_instance(
     alloc: Global,
     plan: &Plan,

@@ -19,46 +19,49 @@ use std::alloc::{AllocError, Global};
 use std::error::Error;
 use std::fmt;
 
-/// Why a command gave no answer: a refusal of what it was given, which has a number, or a fault, which has none.
+/// Why a command gave no answer. A refusal of what it was given has a number in docs/FORMATS.md; a fault of the
+/// machine, or a backfill that stopped, has none.
 #[derive(Debug, Drop)]
 pub enum CommandFault {
-    /// The graph file says no graph.
+    /// The graph file can't be read as a graph.
     Read(ReadFault),
-    /// The graph has a fault.
+    /// The graph was read and breaks a rule, as by a cycle.
     Check(CheckFault),
-    /// The table of answers has one.
+    /// The file of answers isn't a table.
     Table(TableFault),
-    /// There are no runs in the range, or none at the moment.
+    /// The runs of the range can't be listed, or there is none where some are asked for.
     Range(RangeFault),
-    /// The report to go on from is none.
+    /// The file that is named as a report isn't one.
     Report(ReportFault),
-    /// The journal to go on from is none of this backfill.
+    /// The journal is of another backfill, or has a line that is no record.
     Journal(JournalFault),
-    /// Nothing is cleared in the report.
+    /// A task or run that is named isn't there, or the report isn't of this graph or range.
     Clear(ClearFault),
-    /// The file of what is to be cleared is none.
+    /// The file that names what to clear is refused.
     Seeds(SeedsFault),
     /// Another backfill has the journal open.
     JournalInUse,
-    /// No instance of the task in the run has the map index that is asked for.
+    /// The task has no instance of the map index that is asked for in that run.
     UnknownIndex,
-    /// A text that is no moment, or one of a date that doesn't exist.
+    /// A text isn't a moment or a day, or its date doesn't exist.
     BadMoment,
+    /// Memory ran out.
     OutOfMemory,
-    /// A path, as it stood on the line, whose file can't be read.
+    /// The file at this path, as the line spells it, can't be read.
     CannotRead(Text),
-    /// How many bytes of the text went out before the device failed.
+    /// The output device failed after this many bytes of the text.
     CannotWrite(u64),
-    /// A path, as it stood on the line, whose file can't be replaced.
+    /// The file at this path, as the line spells it, can't be written or replaced.
     CannotWriteFile(Text),
-    /// A path, as it stood on the line, whose program can't be started.
+    /// The launcher at this path, as the line spells it, can't be started.
     CannotLaunch(Text),
     /// The backfill stopped before its end.
     Stopped(StopFault),
 }
 
 impl CommandFault {
-    /// The number of the refusal (docs/FORMATS.md); None for a fault, which has none, as want of memory.
+    /// Answers the number that docs/FORMATS.md gives the refusal; None for want of memory, in any variant, for other
+    /// faults of the machine, and for a backfill that stopped.
     pub fn refusal_number(&self) -> Option<u32>
         ensures { result ≡ number_of self.now }
     {
@@ -83,8 +86,7 @@ impl CommandFault {
         }
     }
 
-    /// The exit status with which the program ends at this fault: `Refused` for a fault with a refusal number, else
-    /// `Fault`.
+    /// Gives the exit status that the program ends with: `Refused` where there is a refusal number, else `Fault`.
     pub fn status(&self) -> Status
         ensures { result ≡ status_of self.now }
     {
@@ -94,8 +96,8 @@ impl CommandFault {
         }
     }
 
-    /// The line for standard error: `refused`, the number and the words, or `fault:` and the words, with its line
-    /// feed.
+    /// Gives the line for standard error, with its line feed: `refused`, the number and the words, or `fault:` and the
+    /// words.
     pub fn line(&self, alloc: Global) -> Result<String, OutOfMemory>
         ensures { IfOk result (λ line. string_bytes line ≡ line_of self.now) }
     {
@@ -113,7 +115,7 @@ impl fmt::Display for CommandFault {
 
     ghost output = { λ fault. Some (words_of fault) };
 
-    /// Writes the words of the fault, without `refused` or `fault:` and without its number.
+    /// Writes the words alone, without `refused`, `fault:` or the number.
     fn fmt<W: fmt::Write>(&self, f: &mut fmt::Formatter<W>) -> fmt::Result {
         match self {
             CommandFault::Read(fault) => write!(f, "{fault}"),
@@ -144,6 +146,7 @@ impl From<OutOfMemory> for CommandFault {
 
     ghost from_gives = { λ _ e. e ≡ OutOfMemory };
 
+    /// Gives `OutOfMemory`.
     fn from(_e: OutOfMemory) -> CommandFault {
         CommandFault::OutOfMemory
     }
@@ -154,6 +157,7 @@ impl From<AllocError> for CommandFault {
 
     ghost from_gives = { λ _ e. e ≡ OutOfMemory };
 
+    /// Gives `OutOfMemory`.
     fn from(_e: AllocError) -> CommandFault {
         CommandFault::OutOfMemory
     }
@@ -164,7 +168,7 @@ impl From<ReadFault> for CommandFault {
 
     ghost from_gives = { λ fault e. e ≡ of_read fault };
 
-    /// The fault of a command that can't read a graph file; want of memory stays that.
+    /// Wraps what is wrong with a graph file; want of memory becomes `OutOfMemory`.
     fn from(fault: ReadFault) -> CommandFault {
         match fault {
             ReadFault::OutOfMemory => CommandFault::OutOfMemory,
@@ -178,7 +182,7 @@ impl From<CheckFault> for CommandFault {
 
     ghost from_gives = { λ fault e. e ≡ of_check fault };
 
-    /// The fault of a command whose graph fails its check; want of memory stays that.
+    /// Wraps what is wrong with a graph; want of memory becomes `OutOfMemory`.
     fn from(fault: CheckFault) -> CommandFault {
         match fault {
             CheckFault::OutOfMemory => CommandFault::OutOfMemory,
@@ -192,7 +196,7 @@ impl From<TableFault> for CommandFault {
 
     ghost from_gives = { λ fault e. e ≡ of_table fault };
 
-    /// The fault of a command that can't read a table; want of memory stays that.
+    /// Wraps what is wrong with a table; want of memory becomes `OutOfMemory`.
     fn from(fault: TableFault) -> CommandFault {
         match fault {
             TableFault::OutOfMemory => CommandFault::OutOfMemory,
@@ -206,7 +210,7 @@ impl From<IntervalFault> for CommandFault {
 
     ghost from_gives = { λ fault e. e ≡ of_range fault };
 
-    /// The fault of a command whose range of data intervals can't be listed; want of memory stays that.
+    /// Wraps why data intervals can't be listed; want of memory becomes `OutOfMemory`.
     fn from(fault: IntervalFault) -> CommandFault {
         match fault {
             IntervalFault::OutOfMemory => CommandFault::OutOfMemory,
@@ -220,7 +224,7 @@ impl From<ReportFault> for CommandFault {
 
     ghost from_gives = { λ fault e. e ≡ of_report fault };
 
-    /// The fault of a command that can't read a report; want of memory stays that.
+    /// Wraps what is wrong with a report; want of memory becomes `OutOfMemory`.
     fn from(fault: ReportFault) -> CommandFault {
         match fault {
             ReportFault::OutOfMemory => CommandFault::OutOfMemory,
@@ -234,7 +238,7 @@ impl From<JournalFault> for CommandFault {
 
     ghost from_gives = { λ fault e. e ≡ of_journal fault };
 
-    /// The fault of a command that can't read a journal; want of memory stays that.
+    /// Wraps what is wrong with a journal; want of memory becomes `OutOfMemory`.
     fn from(fault: JournalFault) -> CommandFault {
         match fault {
             JournalFault::OutOfMemory => CommandFault::OutOfMemory,
@@ -248,7 +252,7 @@ impl From<ClearFault> for CommandFault {
 
     ghost from_gives = { λ fault e. e ≡ of_clear fault };
 
-    /// The fault of a command that can't clear what is asked for; want of memory stays that.
+    /// Wraps why a report can't be cleared; want of memory becomes `OutOfMemory`.
     fn from(fault: ClearFault) -> CommandFault {
         match fault {
             ClearFault::OutOfMemory => CommandFault::OutOfMemory,
@@ -262,7 +266,8 @@ impl From<SeedsFault> for CommandFault {
 
     ghost from_gives = { λ fault e. e ≡ of_seeds fault };
 
-    /// The fault of a command that can't read seeds; an unknown task or run is told as where the line names it.
+    /// Wraps what is wrong with a seeds file. An unknown task or run becomes `Clear`, as for a seed on the line, and
+    /// want of memory `OutOfMemory`.
     fn from(fault: SeedsFault) -> CommandFault {
         match fault {
             SeedsFault::OutOfMemory => CommandFault::OutOfMemory,
@@ -277,7 +282,7 @@ impl From<WriteFault> for CommandFault {
 
     ghost from_gives = { λ fault e. e ≡ of_write fault };
 
-    /// The fault of a command that can't write its text, with how many bytes went out; want of memory stays that.
+    /// Keeps how many bytes were written before the device failed; want of memory becomes `OutOfMemory`.
     fn from(fault: WriteFault) -> CommandFault {
         match fault.cause {
             Cause::Io => CommandFault::CannotWrite(fault.sent),

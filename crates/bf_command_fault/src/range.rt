@@ -6,17 +6,17 @@ use bf_interval::IntervalFault;
 use std::error::Error;
 use std::fmt;
 
-/// Why there are no runs in a range, or none at a moment.
+/// Why a range of dates, or a moment, gives no runs.
 #[derive(Clone, Copy, Debug, PartialEq, Eq)]
 pub enum RangeFault {
-    /// The data intervals aren't listed.
+    /// The data intervals can't be listed.
     Unlisted(IntervalFault),
-    /// None starts in the range, and there have to be some.
+    /// No data interval starts in the range, and `--some` asks for one.
     NoRuns,
 }
 
 impl RangeFault {
-    /// The number of the refusal (docs/FORMATS.md), 25 to 27 or 29; None for want of memory.
+    /// Answers the number that docs/FORMATS.md gives the refusal, 25 to 27 or 29; None for want of memory.
     pub fn refusal_number(self) -> Option<u32>
         ensures { result ≡ range_refusal_number_of self }
     {
@@ -33,7 +33,7 @@ impl fmt::Display for RangeFault {
 
     ghost output = { λ fault. Some (range_words fault) };
 
-    /// Writes the words of the fault.
+    /// Writes the words that follow the refusal's number.
     fn fmt<W: fmt::Write>(&self, f: &mut fmt::Formatter<W>) -> fmt::Result {
         match self {
             RangeFault::Unlisted(fault) => write!(f, "{fault}"),

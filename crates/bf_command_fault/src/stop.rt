@@ -5,22 +5,23 @@ use bf_value::Text;
 use std::error::Error;
 use std::fmt;
 
-/// Why a backfill stopped before its end. Tries that ran were waited for.
+/// Why a backfill stopped before its end. It waited first for the tries that were running.
 #[derive(Debug, Drop)]
 pub enum StopFault {
-    /// A worker's thread could not be started.
+    /// A worker's thread can't be started.
     CannotStart,
-    /// The program of a try was started, and could not be waited for.
+    /// The program of this try was started, but waiting for it failed. `index` is the map index, -1 for an unmapped
+    /// task; `attempt` is the number of the try, from 1.
     GaveUp {
         task: Text,
         index: i32,
         attempt: u32,
     },
-    /// The path of a try's log, where one of its logs can't be made. Its program wasn't started.
+    /// A try's log can't be made at this path, so its program wasn't started.
     CannotLog(Text),
-    /// A try can't be recorded: a write to the journal has failed, or a sync.
+    /// The journal can't be written or synced, so the end of a try isn't recorded.
     CannotRecord,
-    /// As many tries have failed as may.
+    /// As many tries failed as are allowed, which is this many.
     EnoughFailed(u32),
 }
 
@@ -30,7 +31,7 @@ impl fmt::Display for StopFault {
 
     ghost output = { λ fault. Some (stop_words fault) };
 
-    /// Writes the words of the fault.
+    /// Writes the words that follow `fault:`.
     fn fmt<W: fmt::Write>(&self, f: &mut fmt::Formatter<W>) -> fmt::Result {
         match self {
             StopFault::CannotStart => write!(f, "cannot start workers"),

@@ -10,7 +10,8 @@ use clap::{ArgMatches, Error};
 use std::alloc::{AllocError, Global};
 
 // `clap` is handed no list of possible values: a clause can't tell where such a list lies, and so not which line has it.
-/// The format that `schema` asks for, by what `clap` found. Refuses any other word than `graph` and `table`.
+/// Reads the format that `schema` is asked for. `Err` where the word is neither `graph` nor `table`, or at want of
+/// memory.
 #[tactic(auto, using(crate::proofs::Rows::first_rows))]
 pub(crate) fn format_asked(alloc: Global, matches: &ArgMatches<'_>) -> Result<Format, Error>
     ensures ok { IfOk result (IsFormatBy (rows_of (found_of matches.now))) }
@@ -25,8 +26,8 @@ pub(crate) fn format_asked(alloc: Global, matches: &ArgMatches<'_>) -> Result<Fo
     }
 }
 
-/// The shell whose completions are asked for, by what `clap` found. Refuses any other word than `bash`, `zsh` and
-/// `fish`.
+/// Reads the shell that `completions` is asked for. `Err` where the word isn't `bash`, `zsh` or `fish`, or at want of
+/// memory.
 #[tactic(auto, using(crate::proofs::Rows::first_rows))]
 pub(crate) fn shell_asked(alloc: Global, matches: &ArgMatches<'_>) -> Result<Shell, Error>
     ensures ok { IfOk result (IsShellBy (rows_of (found_of matches.now))) }
@@ -42,8 +43,8 @@ pub(crate) fn shell_asked(alloc: Global, matches: &ArgMatches<'_>) -> Result<She
     }
 }
 
-/// When to colour, by what `clap` found for `--color`; auto where it isn't given. Refuses any other word than `auto`,
-/// `always` and `never`.
+/// Reads when to colour a grid; `Auto` where `--color` isn't given. `Err` where its word isn't `auto`, `always` or
+/// `never`, or at want of memory.
 #[tactic(auto, using(crate::proofs::Rows::first_rows))]
 pub(crate) fn color_asked(alloc: Global, matches: &ArgMatches<'_>) -> Result<Color, Error>
     ensures ok { IfOk result (IsColorBy

@@ -15,8 +15,8 @@ use crate::value::{
 use clap::{ArgMatches, Error};
 use std::alloc::{AllocError, Global};
 
-/// The value of `--index` at `place`, from 0; None where there are fewer. AllocError where it is no number, which
-/// `clap` has ruled out.
+/// Answers the value of `--index` at `place`, from 0; None where there are fewer. `Err` where it isn't an integer,
+/// which `clap` rules out.
 fn index_at(matches: &ArgMatches<'_>, place: usize) -> Result<Option<i32>, AllocError>
     ensures { IfOk result (IsIntegerIfGiven
         (slice_get (texts_in (codes "index") (rows_of (found_of matches.now))) place)) }
@@ -30,8 +30,8 @@ fn index_at(matches: &ArgMatches<'_>, place: usize) -> Result<Option<i32>, Alloc
     }
 }
 
-/// The seed of the values of `--task`, `--run` and `--index` at `place`, from 0. AllocError where memory is wanting,
-/// or there is no such `--task` or `--run`.
+/// Makes a seed of the values of `--task`, `--run` and `--index` at `place`, from 0; the last may be missing. `Err`
+/// where a task or run is missing there, or at want of memory.
 fn seed_at(alloc: Global, matches: &ArgMatches<'_>, place: usize) -> Result<SeedAsked, AllocError>
     ensures { IfOk result (IsSeedAt (rows_of (found_of matches.now)) place) }
 {
@@ -42,8 +42,8 @@ fn seed_at(alloc: Global, matches: &ArgMatches<'_>, place: usize) -> Result<Seed
     })
 }
 
-/// The seeds that `--task`, `--run` and `--index` name, one for each value of `--task`, in order. AllocError where
-/// memory is wanting, or a `--run` is, which `refuse_unpaired` has ruled out.
+/// Makes a seed for each value of `--task`, in order, with the `--run` and `--index` at its place. `Err` where a run is
+/// missing, which `refuse_unpaired` rules out, or at want of memory.
 fn seeds_asked(alloc: Global, matches: &ArgMatches<'_>) -> Result<Vec<SeedAsked>, AllocError>
     ensures { IfOk result (λ seeds. AreSeedsBy (rows_of (found_of matches.now)) seeds.items) }
 {
@@ -64,7 +64,8 @@ fn has_seeds(matches: &ArgMatches<'_>) -> bool
         || value_count_of(matches, "index") != 0
 }
 
-/// Refuses more or fewer values of `--task` than of `--run`, and of `--index` than of `--task` where it has some.
+/// Checks that `--run` has as many values as `--task`, and `--index` as many or none. `Err` where not, or at want of
+/// memory.
 fn refuse_unpaired(alloc: Global, matches: &ArgMatches<'_>) -> Result<(), Error>
     ensures { FailsBy (seeds_wrongs (rows_of (found_of matches.now))) result }
 {
@@ -80,8 +81,8 @@ fn refuse_unpaired(alloc: Global, matches: &ArgMatches<'_>) -> Result<(), Error>
     Ok(())
 }
 
-/// What is to be cleared, by what `clap` found for `clear`. Refuses a line that doesn't say it, says it in two ways,
-/// or has unpaired options.
+/// Reads what to clear: seeds, a seeds file, or what failed. `Err` where the line names none of these or more than one,
+/// its options don't pair, or memory runs out.
 fn cleared_asked(alloc: Global, matches: &ArgMatches<'_>) -> Result<ClearedAsked, Error>
     ensures ok { IfOk result (IsClearedBy (rows_of (found_of matches.now))) }
     ensures err { FailsBy (cleared_wrongs (rows_of (found_of matches.now))) result }
@@ -103,8 +104,9 @@ fn cleared_asked(alloc: Global, matches: &ArgMatches<'_>) -> Result<ClearedAsked
     }
 }
 
-/// What `clear`, which is `name`, asks for, by what `clap` found: to go on from a report, or with `--plan` only what
-/// would be cleared. Refuses a line that lacks or repeats what is cleared or the range.
+/// Reads what `clear`, which is `name`, asks for: to go on from a report, or with `--plan` to print what would be
+/// cleared. `Err` where the range or what to clear is missing or doubled, options don't pair or lack one that they
+/// need, the name of logs is empty, or memory runs out.
 pub(crate) fn clear_asked(
     alloc: Global,
     name: &str,

@@ -2,44 +2,45 @@
 
 use bf_workers::Workers;
 
-/// `GRAPH [--zone-file PATH]`: a graph file, and the zone file that its zone `file` means.
+/// `GRAPH [--zone-file PATH]`: the paths of a graph file, and of the zone file that its zone `file` means.
 #[derive(Drop)]
 pub struct GraphAsked {
     pub graph: String,
     pub zone_file: Option<String>,
 }
 
-/// `check GRAPH [--explain]`: a graph, and whether all that is wrong with it is told.
+/// `check GRAPH [--explain]`: a graph, and whether to tell all that is wrong with it.
 #[derive(Drop)]
 pub struct CheckAsked {
     pub graph: GraphAsked,
     pub explain: bool,
 }
 
-/// Where data intervals start.
+/// Where data intervals have to start.
 #[derive(Drop)]
 pub enum StartsAsked {
-    /// `--from T --to T`: the first and the last moment at which one may.
+    /// `--from T --to T`: the first and the last moment at which one may start, both included.
     Between { from: String, to: String },
-    /// `--on DAYS`: the days on which they do.
+    /// `--on DAYS`: the day, or the first and the last day, on which one may start by the graph's zone.
     On(String),
 }
 
-/// `(--from T --to T | --on DAYS) [--some]`: where data intervals start, and whether there have to be some.
+/// `(--from T --to T | --on DAYS) [--some]`: where data intervals have to start, and whether a range without any is
+/// refused.
 #[derive(Drop)]
 pub struct RangeAsked {
     pub starts: StartsAsked,
     pub some: bool,
 }
 
-/// `list GRAPH RANGE`: the data intervals of a range.
+/// `list GRAPH RANGE`: print the data intervals that start in a range.
 #[derive(Drop)]
 pub struct ListAsked {
     pub graph: GraphAsked,
     pub range: RangeAsked,
 }
 
-/// `single GRAPH TABLE --at T`: one run whose interval starts and ends at `T`, its tasks answered from a table.
+/// `single GRAPH TABLE --at T`: make one run, whose interval starts and ends at `T`, with a table's answers.
 #[derive(Drop)]
 pub struct SingleAsked {
     pub graph: GraphAsked,
@@ -47,8 +48,8 @@ pub struct SingleAsked {
     pub at: String,
 }
 
-/// `dry GRAPH TABLE RANGE [--workers N] [--progress]`: a run for each data interval of a range, its tasks answered
-/// from a table.
+/// `dry GRAPH TABLE RANGE [--workers N] [--progress]`: make a run for each data interval of a range, with a table's
+/// answers.
 #[derive(Drop)]
 pub struct DryAsked {
     pub graph: GraphAsked,
@@ -58,9 +59,8 @@ pub struct DryAsked {
     pub progress: bool,
 }
 
-/// `--journal PATH [--stop-after N] [--retry-failed]`: the file that tries are recorded in as they end, and gone on
-/// from; behind how many failed tries no further one begins; and whether failed tries that are recorded are made
-/// again.
+/// `--journal PATH [--stop-after N] [--retry-failed]`: the file to record tries in and to go on from; after how many
+/// failed tries no further one begins, None for any number; and whether recorded tries that failed are made again.
 #[derive(Drop)]
 pub struct JournalAsked {
     pub path: String,
@@ -68,10 +68,9 @@ pub struct JournalAsked {
     pub retry_failed: bool,
 }
 
-/// `run GRAPH RANGE [--workers N] [--progress] [--launcher PATH] [--logs FOLDER] [--journal PATH ..] [--quiet]`: a
-/// run for each data interval of a range, with the programs of its tasks. Where a launcher is named, the words of
-/// their commands are handed to it; where a folder of logs is, it keeps what they write and are given. Progress is
-/// told where that is asked for, and nothing is to be quiet.
+/// `run GRAPH RANGE [--workers N] [--progress] [--launcher PATH] [--logs FOLDER] [--journal PATH ..] [--quiet]`: make a
+/// run for each data interval of a range, with the programs of its tasks. A launcher is handed the words of their
+/// commands; a folder of logs keeps what they write and are given. `progress` is false where `quiet` is set.
 #[derive(Drop)]
 pub struct RunAsked {
     pub graph: GraphAsked,
@@ -84,7 +83,7 @@ pub struct RunAsked {
     pub journal: Option<JournalAsked>,
 }
 
-/// `--task ID --run T [--index N]`: a task in the run of a logical date, or the instance of a map index.
+/// `--task ID --run T [--index N]`: a task in the run of a logical date, or only its instance of a map index.
 #[derive(Drop)]
 pub struct SeedAsked {
     pub task: String,
@@ -92,23 +91,22 @@ pub struct SeedAsked {
     pub index: Option<i32>,
 }
 
-/// What is cleared.
+/// What to clear in a report.
 #[derive(Drop)]
 pub enum ClearedAsked {
     /// `--task ID --run T [--index N] ..`: the first task in the first run with the first index, and so on.
     Seeds(Vec<SeedAsked>),
-    /// `--seeds PATH`: the lines of a file.
+    /// `--seeds PATH`: what the lines of a file name.
     File(String),
     /// `--failed`: each instance that failed.
     Failed,
-    /// Nothing, with `--keep`.
+    /// Nothing, for `run` and `dry` with `--keep`.
     Nothing,
 }
 
 /// `clear GRAPH REPORT RANGE CLEARED [--table PATH] [--workers N] [--progress] [--launcher PATH] [--logs FOLDER]
-/// [--journal PATH ..] [--quiet]`: a backfill that goes on from its report, where some tasks in runs and all that
-/// follows from them are cleared. Tries are answered from a table where one is named, else by the programs of the
-/// tasks, as `run` starts them.
+/// [--journal PATH ..] [--quiet]`: go on from a report with some tasks in runs cleared, and all that follows from
+/// them. A table answers the tries where one is named, else programs make them, as with `run`.
 #[derive(Drop)]
 pub struct ClearAsked {
     pub graph: GraphAsked,
@@ -124,7 +122,7 @@ pub struct ClearAsked {
     pub journal: Option<JournalAsked>,
 }
 
-/// `clear GRAPH REPORT RANGE CLEARED --plan`: what is cleared then.
+/// `clear GRAPH REPORT RANGE CLEARED --plan`: print what would be cleared.
 #[derive(Drop)]
 pub struct ClearPlanAsked {
     pub graph: GraphAsked,
@@ -133,18 +131,17 @@ pub struct ClearPlanAsked {
     pub cleared: ClearedAsked,
 }
 
-/// When text is coloured.
+/// When to colour a grid.
 #[derive(Clone, Copy, PartialEq, Eq)]
 pub enum Color {
-    /// On a terminal, unless its variables say otherwise.
+    /// On a terminal, unless NO_COLOR is set and not empty, or TERM is `dumb`.
     Auto,
     Always,
     Never,
 }
 
-/// `show GRAPH REPORT [--from T] [--to T] [--failed] [--width N] [--color WHEN]`: a report of a graph as a grid, of
-/// which the runs from a moment on or up to one may be shown, and only what failed; its width in characters, 20 to
-/// 10,000, and its colours.
+/// `show GRAPH REPORT [--from T] [--to T] [--failed] [--width N] [--color WHEN]`: show a report as a grid, the runs
+/// from a moment on or up to one, or only what failed. The width is in characters, 20 to 10,000.
 #[derive(Drop)]
 pub struct ShowAsked {
     pub graph: GraphAsked,
@@ -156,8 +153,8 @@ pub struct ShowAsked {
     pub color: Color,
 }
 
-/// `page GRAPH REPORT [--states-only] [--journal PATH]`: the page that shows a report, from which its values are left
-/// out where only the states are asked for; it has the times of a journal where one is named.
+/// `page GRAPH REPORT [--states-only] [--journal PATH]`: write a page that shows a report, without its tries and values
+/// where only states are asked for, and with the times of a journal where one is named.
 #[derive(Drop)]
 pub struct PageAsked {
     pub graph: GraphAsked,
@@ -166,15 +163,15 @@ pub struct PageAsked {
     pub journal: Option<String>,
 }
 
-/// `--task ID [--index N]`: a task, or one instance of it by its map index.
+/// `--task ID [--index N]`: a task, or only its instance of a map index.
 #[derive(Drop)]
 pub struct TaskAsked {
     pub id: String,
     pub index: Option<i32>,
 }
 
-/// `explain GRAPH REPORT --run T [--task ID [--index N]]`: why a task in the run of a logical date has its state, or
-/// where no task is named, why the run has.
+/// `explain GRAPH REPORT --run T [--task ID [--index N]]`: tell why a task in the run of a logical date has its state,
+/// or why the run has, where no task is named.
 #[derive(Drop)]
 pub struct ExplainAsked {
     pub graph: GraphAsked,
@@ -183,14 +180,14 @@ pub struct ExplainAsked {
     pub task: Option<TaskAsked>,
 }
 
-/// A format that a file of its own is written in, and that has a schema.
+/// A file format that has a JSON Schema.
 #[derive(Clone, Copy, PartialEq, Eq)]
 pub enum Format {
     Graph,
     Table,
 }
 
-/// A shell that completes command lines.
+/// A shell that can complete command lines.
 #[derive(Clone, Copy, PartialEq, Eq)]
 pub enum Shell {
     Bash,
@@ -198,37 +195,44 @@ pub enum Shell {
     Fish,
 }
 
-/// A subcommand with its paths and options.
+/// A command with its paths and options.
 #[derive(Drop)]
 pub enum Asked {
-    /// Whether a graph file has a fault.
+    /// `check`: tell whether a graph file is good.
     Check(CheckAsked),
+    /// `list`: print the data intervals that start in a range.
     List(ListAsked),
+    /// `single`: run a graph once over a table.
     Single(SingleAsked),
+    /// `dry`: run a graph for a range over a table.
     Dry(DryAsked),
+    /// `run`: run a graph for a range with the programs of its tasks.
     Run(RunAsked),
-    /// `run GRAPH RANGE --keep REPORT ..` and `dry GRAPH TABLE RANGE --keep REPORT ..`: a backfill that goes on from
-    /// the report of one of the same graph, whatever shape that had and whatever runs there were; in the form that
-    /// `clear` has.
+    /// `run GRAPH RANGE --keep REPORT ..` and `dry GRAPH TABLE RANGE --keep REPORT ..`: go on from a report of the same
+    /// graph, even if its tasks or runs were others; as a `clear` that clears nothing.
     Keep(ClearAsked),
+    /// `clear`: go on from a report with some of it cleared.
     Clear(ClearAsked),
-    /// What `Clear` would clear.
+    /// `clear --plan`: print what `Clear` would clear.
     ClearPlan(ClearPlanAsked),
+    /// `show`: print a report as a grid.
     Show(ShowAsked),
-    /// `show --json REPORT`: the task instances of a report, as lines of JSON.
+    /// `show --json REPORT`: print the task instances of a report as lines of JSON.
     ShowJson(String),
+    /// `page`: write a page that shows a report.
     Page(PageAsked),
+    /// `explain`: tell why a task or a run has its state.
     Explain(ExplainAsked),
-    /// `answers REPORT`: the table of answers over which a dry backfill has the report again.
+    /// `answers REPORT`: print the table with which `dry` makes the report again.
     Answers(String),
-    /// `schema FORMAT`: the schema of the files of a format.
+    /// `schema FORMAT`: print the JSON Schema of a format's files.
     Schema(Format),
-    /// `completions SHELL`: what a shell completes.
+    /// `completions SHELL`: print the script by which a shell completes command lines.
     Completions(Shell),
 }
 
-/// What a whole line asks for: `COMMAND [--out PATH]`, of which the commands that write reports have the option.
-/// Where a file is named, the report goes there and not to standard output.
+/// What a whole line asks for: `COMMAND [--out PATH]`. Where a file is named, the report goes there and not to standard
+/// output; only commands that write reports have the option.
 #[derive(Drop)]
 pub struct CommandLine {
     pub command: Asked,

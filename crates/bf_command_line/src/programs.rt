@@ -12,8 +12,7 @@ use bf_workers::Workers;
 use clap::{ArgMatches, Error};
 use std::alloc::{AllocError, Global};
 
-/// The number of workers that `--workers` says; one where it isn't given. AllocError where it is no such number,
-/// which `clap` has ruled out.
+/// Reads `--workers`; one where it isn't given. `Err` where its value isn't from 1 to 64, which `clap` rules out.
 #[tactic(auto, using(crate::proofs::Rows::first_rows))]
 pub(crate) fn workers_asked(matches: &ArgMatches<'_>) -> Result<Workers, AllocError>
     ensures { IfOk result (IsWorkersBy (rows_of (found_of matches.now))) }
@@ -27,8 +26,8 @@ pub(crate) fn workers_asked(matches: &ArgMatches<'_>) -> Result<Workers, AllocEr
     }
 }
 
-/// The journal that `--journal` names for the command `name`; None where it isn't given. Refuses `--stop-after` and
-/// `--retry-failed` without it.
+/// Reads the journal options of the command `name`; None where `--journal` isn't given. `Err` where `--stop-after` or
+/// `--retry-failed` is given without it, or at want of memory.
 fn journal_asked(
     alloc: Global,
     name: &str,
@@ -50,7 +49,8 @@ fn journal_asked(
     }
 }
 
-/// The folder that `--logs` names for the command `name`; None where it isn't given. Refuses an empty name.
+/// Reads the folder of `--logs` of the command `name`; None where it isn't given. `Err` where its name is empty, or at
+/// want of memory.
 fn logs_asked(alloc: Global, name: &str, matches: &ArgMatches<'_>) -> Result<Option<String>, Error>
     ensures ok { IfOk result (IsLogsBy (rows_of (found_of matches.now))) }
     ensures err { FailsBy (empty_wrongs
@@ -62,8 +62,8 @@ fn logs_asked(alloc: Global, name: &str, matches: &ArgMatches<'_>) -> Result<Opt
     }
 }
 
-/// What the command `name`, `run` or `clear`, asks for in common, in the form of `run`. Refuses a missing or doubled
-/// range, journal options without a journal, and an empty name of logs.
+/// Reads what `run` and `clear` have in common, in the form of `run`; `name` is the command. `Err` where the range is
+/// missing or doubled, a journal option has no journal, the name of logs is empty, or memory runs out.
 pub(crate) fn programs_asked(
     alloc: Global,
     name: &str,

@@ -10,7 +10,8 @@ use crate::value::{is_flag_set, optional_text, required_text};
 use clap::{ArgMatches, Error};
 use std::alloc::{AllocError, Global};
 
-/// The graph file that a command names, and the zone file where it names one, by what `clap` found.
+/// Reads the paths of the graph file, and of the zone file where one is named. `Err` where `clap` found no graph file,
+/// or at want of memory.
 pub(crate) fn graph_asked(alloc: Global, matches: &ArgMatches<'_>) -> Result<GraphAsked, AllocError>
     ensures { IfOk result (IsGraphBy (rows_of (found_of matches.now))) }
 {
@@ -20,8 +21,8 @@ pub(crate) fn graph_asked(alloc: Global, matches: &ArgMatches<'_>) -> Result<Gra
     })
 }
 
-/// Where the data intervals start that the command `name` asks for. Refuses a line that doesn't say it, or says it
-/// both by `--on` and by `--from` or `--to`.
+/// Reads where data intervals have to start, for the command `name`. `Err` where neither `--on` nor both of `--from`
+/// and `--to` are given, or `--on` with one of these, or at want of memory.
 fn starts_asked(alloc: Global, name: &str, matches: &ArgMatches<'_>) -> Result<StartsAsked, Error>
     ensures ok { IfOk result (IsStartsBy (rows_of (found_of matches.now))) }
     ensures err { FailsBy (range_wrongs (rows_of (found_of matches.now))) result }
@@ -37,7 +38,7 @@ fn starts_asked(alloc: Global, name: &str, matches: &ArgMatches<'_>) -> Result<S
     }
 }
 
-/// The range of runs that the command `name` asks for, by what `clap` found. Refuses a line without one, or with two.
+/// Reads the range of runs of the command `name`. `Err` where it is missing or doubled, or at want of memory.
 pub(crate) fn range_asked(
     alloc: Global,
     name: &str,

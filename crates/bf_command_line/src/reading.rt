@@ -18,10 +18,8 @@ use bf_grammar::backfill_command;
 use clap::{ArgMatches, Error};
 use std::alloc::{AllocError, Global};
 
-/// What the words ask for, of which the first is the program's own name.
-///
-/// # Errors
-/// `clap`'s, with its words on a wrong line and its help where that was asked for.
+/// Reads what the words of a line ask for, the first of which is the program's own name. `Err` has `clap`'s words on a
+/// wrong line, its help or version where that is asked for, or want of memory.
 pub fn asked(alloc: Global, words: &[String]) -> Result<CommandLine, Error>
     ensures ok { IfOk result (IsLineBy (subcommand_of backfill_app (map string_bytes words.now))) }
     ensures err { FailsBy (wrongs_of (map string_bytes words.now)) result }
@@ -30,8 +28,8 @@ pub fn asked(alloc: Global, words: &[String]) -> Result<CommandLine, Error>
     line_asked(alloc, &matches)
 }
 
-/// What `clap` finds in the words of a line, the first of which is the program's own name; its refusal or its help as
-/// an error.
+/// Has `clap` take the words of a line apart, the first of which is the program's own name. `Err` where `clap` refuses
+/// the line or has help or the version to show, or at want of memory.
 fn matches_of<'a>(alloc: Global, words: &'a [String]) -> Result<ArgMatches<'a>, Error>
     ensures ok { IfOk result (λ m. subcommand_rows_of m
         ≡ subcommand_of backfill_app (map string_bytes words.entry.now)) }
@@ -42,8 +40,8 @@ fn matches_of<'a>(alloc: Global, words: &'a [String]) -> Result<ArgMatches<'a>, 
 
 // `clap` has seen to it that a subcommand and what it requires are there. No contract hands this on
 // for a subcommand's own arguments, so that the arms without them answer as want of memory does.
-/// What a whole command line asks for, by what `clap` found: a command, and the file for its report where `--out`
-/// names one. Refuses what `clap` alone doesn't.
+/// Reads what a whole line asks for out of what `clap` found: a command, and the file of `--out`. `Err` for what only
+/// this crate refuses, such as a range given twice, or at want of memory.
 fn line_asked(alloc: Global, matches: &ArgMatches<'_>) -> Result<CommandLine, Error>
     ensures ok { IfOk result (IsLineBy (subcommand_rows_of matches.now)) }
     ensures err { FailsBy (found_wrongs (subcommand_rows_of matches.now)) result }
@@ -58,8 +56,8 @@ fn line_asked(alloc: Global, matches: &ArgMatches<'_>) -> Result<CommandLine, Er
     }
 }
 
-/// Whether `path` is, letter by letter, also named as a file that the command reads, or as its journal. The report
-/// that is gone on from doesn't count.
+/// Whether `path` is spelled the same as a file that the command reads, or as its journal. The report to go on from
+/// doesn't count: it may be replaced.
 fn is_overwritten(matches: &ArgMatches<'_>, path: &str) -> bool
     ensures { result ≡ is_overwritten_in (rows_of (found_of matches.now)) (Some path.now) }
 {
@@ -70,8 +68,8 @@ fn is_overwritten(matches: &ArgMatches<'_>, path: &str) -> bool
         || says_word(matches, "journal", path)
 }
 
-/// The path that `--out` names for the report of the command `name`; None where it isn't given. Refuses one that is
-/// also named as a file that the command reads, or as its journal.
+/// Reads the path of `--out` of the command `name`; None where it isn't given. `Err` where a file that the command
+/// reads, or its journal, is spelled the same, or at want of memory.
 fn out_asked(alloc: Global, name: &str, matches: &ArgMatches<'_>) -> Result<Option<String>, Error>
     ensures ok { IfOk result (λ out. first_of (codes "out") (rows_of (found_of matches.now))
         ≡ option_map string_bytes out) }
@@ -86,7 +84,8 @@ fn out_asked(alloc: Global, name: &str, matches: &ArgMatches<'_>) -> Result<Opti
     Ok(Some(path))
 }
 
-/// What the command `name` asks for, by what `clap` found for it. Refuses what `clap` alone doesn't.
+/// Reads what the command `name` asks for out of what `clap` found for it. `Err` for what only this crate refuses, such
+/// as a range given twice, or at want of memory.
 fn subcommand_asked(alloc: Global, name: &str, matches: &ArgMatches<'_>) -> Result<Asked, Error>
     ensures ok { IfOk result (IsAskedBy (Some (name.now, rows_of (found_of matches.now)))) }
     ensures err { FailsBy (command_wrongs name.now (rows_of (found_of matches.now))) result }
@@ -105,8 +104,8 @@ fn subcommand_asked(alloc: Global, name: &str, matches: &ArgMatches<'_>) -> Resu
     }
 }
 
-/// What the command `name`, one of `check`, `single` and `page`, asks for. AllocError for any other name, which
-/// `clap` has ruled out, or where memory is wanting.
+/// Reads what the command `name`, one of `check`, `single` and `page`, asks for. `Err` for any other name, which `clap`
+/// rules out, or at want of memory.
 fn rangeless_command_asked(
     alloc: Global,
     name: &str,
@@ -122,7 +121,7 @@ fn rangeless_command_asked(
     }
 }
 
-/// What `check` asks for, by what `clap` found.
+/// Reads what `check` asks for.
 fn check_asked(alloc: Global, matches: &ArgMatches<'_>) -> Result<Asked, AllocError>
     ensures { IfOk result (IsAskedBy (Some (codes "check", rows_of (found_of matches.now)))) }
 {
@@ -132,7 +131,7 @@ fn check_asked(alloc: Global, matches: &ArgMatches<'_>) -> Result<Asked, AllocEr
     }))
 }
 
-/// What `list`, which is `name`, asks for, by what `clap` found. Refuses a line without a range, or with two.
+/// Reads what `list`, which is `name`, asks for. `Err` where its range is missing or doubled, or at want of memory.
 fn list_asked(alloc: Global, name: &str, matches: &ArgMatches<'_>) -> Result<Asked, Error>
     ensures ok { IfOk result (IsAskedBy (Some (codes "list", rows_of (found_of matches.now)))) }
     ensures err { FailsBy (range_wrongs (rows_of (found_of matches.now))) result }
@@ -142,7 +141,7 @@ fn list_asked(alloc: Global, name: &str, matches: &ArgMatches<'_>) -> Result<Ask
     Ok(Asked::List(ListAsked { graph, range }))
 }
 
-/// What `single` asks for, by what `clap` found.
+/// Reads what `single` asks for.
 fn single_asked(alloc: Global, matches: &ArgMatches<'_>) -> Result<Asked, AllocError>
     ensures { IfOk result (IsAskedBy (Some (codes "single", rows_of (found_of matches.now)))) }
 {

@@ -49,43 +49,42 @@ const NO_COLOR_WORD: &str = "invalid value for '--color <WHEN>'\n\
 const NO_SHELL: &str = "invalid value for '<SHELL>'\n\
     \x20 [possible values: bash, zsh, fish]";
 
-/// The refusal of a line of the command `name` that doesn't say where data intervals start.
+/// Makes the error for a line of the command `name` that lacks `--from` and `--to`, or `--on`.
 pub(crate) fn missing_range_error(alloc: Global, name: &str) -> Result<Error, AllocError>
     ensures { IfOk result (λ e. kind_of e ≡ ErrorKind.MissingRequiredArgument) }
 {
     refusal_of(alloc, name, ErrorKind::MissingRequiredArgument, NO_RANGE)
 }
 
-/// The refusal of a line of the command `name` that says both by `--on` and by `--from` or `--to` where data
-/// intervals start.
+/// Makes the error for a line of the command `name` that has `--on` beside `--from` or `--to`.
 pub(crate) fn two_ranges_error(alloc: Global, name: &str) -> Result<Error, AllocError>
     ensures { IfOk result (λ e. kind_of e ≡ ErrorKind.ArgumentConflict) }
 {
     refusal_of(alloc, name, ErrorKind::ArgumentConflict, TWO_RANGES)
 }
 
-/// The refusal of `--stop-after` or `--retry-failed` without `--journal`, for the command `name`.
+/// Makes the error for a line of the command `name` that has `--stop-after` or `--retry-failed`, but no `--journal`.
 pub(crate) fn missing_journal_error(alloc: Global, name: &str) -> Result<Error, AllocError>
     ensures { IfOk result (λ e. kind_of e ≡ ErrorKind.MissingRequiredArgument) }
 {
     refusal_of(alloc, name, ErrorKind::MissingRequiredArgument, NO_JOURNAL)
 }
 
-/// The refusal of `--logs` with an empty name, for the command `name`.
+/// Makes the error for a line of the command `name` whose `--logs` is empty.
 pub(crate) fn unnamed_folder_error(alloc: Global, name: &str) -> Result<Error, AllocError>
     ensures { IfOk result (λ e. kind_of e ≡ ErrorKind.InvalidValue) }
 {
     refusal_of(alloc, name, ErrorKind::InvalidValue, NO_FOLDER)
 }
 
-/// The refusal of an `--out` that would overwrite a file that the command `name` reads, or its journal.
+/// Makes the error for a line of the command `name` whose `--out` names a file that it reads, or its journal.
 pub(crate) fn overwriting_error(alloc: Global, name: &str) -> Result<Error, AllocError>
     ensures { IfOk result (λ e. kind_of e ≡ ErrorKind.ArgumentConflict) }
 {
     refusal_of(alloc, name, ErrorKind::ArgumentConflict, OVERWRITING)
 }
 
-/// The refusal of `clear` where no option says what is cleared.
+/// Makes the error for a line of `clear` that doesn't say what to clear.
 pub(crate) fn nothing_cleared_error(alloc: Global) -> Result<Error, AllocError>
     ensures { IfOk result (λ e. kind_of e ≡ ErrorKind.MissingRequiredArgument) }
 {
@@ -97,28 +96,28 @@ pub(crate) fn nothing_cleared_error(alloc: Global) -> Result<Error, AllocError>
     )
 }
 
-/// The refusal of `clear` where options say in two ways what is cleared.
+/// Makes the error for a line of `clear` that says in more than one way what to clear.
 pub(crate) fn cleared_twice_error(alloc: Global) -> Result<Error, AllocError>
     ensures { IfOk result (λ e. kind_of e ≡ ErrorKind.ArgumentConflict) }
 {
     refusal_of(alloc, "clear", ErrorKind::ArgumentConflict, CLEARED_TWICE)
 }
 
-/// The refusal of `clear` with more values of `--task` than of `--run`, or fewer.
+/// Makes the error for a line of `clear` that has more values of `--task` than of `--run`, or fewer.
 pub(crate) fn unpaired_tasks_error(alloc: Global) -> Result<Error, AllocError>
     ensures { IfOk result (λ e. kind_of e ≡ ErrorKind.MissingRequiredArgument) }
 {
     refusal_of(alloc, "clear", ErrorKind::MissingRequiredArgument, UNPAIRED)
 }
 
-/// The refusal of `clear` with more values of `--index` than of `--task`, or fewer.
+/// Makes the error for a line of `clear` that has more values of `--index` than of `--task`, or fewer.
 pub(crate) fn unpaired_indexes_error(alloc: Global) -> Result<Error, AllocError>
     ensures { IfOk result (λ e. kind_of e ≡ ErrorKind.WrongNumberOfValues) }
 {
     refusal_of(alloc, "clear", ErrorKind::WrongNumberOfValues, ODD_INDEXES)
 }
 
-/// The refusal of `explain` with `--index` but without a task.
+/// Makes the error for a line of `explain` that has `--index`, but no `--task`.
 pub(crate) fn missing_task_error(alloc: Global) -> Result<Error, AllocError>
     ensures { IfOk result (λ e. kind_of e ≡ ErrorKind.MissingRequiredArgument) }
 {
@@ -130,35 +129,35 @@ pub(crate) fn missing_task_error(alloc: Global) -> Result<Error, AllocError>
     )
 }
 
-/// The refusal of `show` where it isn't told which report is shown.
+/// Makes the error for a line of `show` that names neither a graph with its report nor, by `--json`, a report.
 pub(crate) fn missing_report_error(alloc: Global) -> Result<Error, AllocError>
     ensures { IfOk result (λ e. kind_of e ≡ ErrorKind.MissingRequiredArgument) }
 {
     refusal_of(alloc, "show", ErrorKind::MissingRequiredArgument, NO_REPORT)
 }
 
-/// The refusal of `show --json` with an option of a grid.
+/// Makes the error for a line of `show` that has `--json` beside an argument of the grid.
 pub(crate) fn json_with_grid_error(alloc: Global) -> Result<Error, AllocError>
     ensures { IfOk result (λ e. kind_of e ≡ ErrorKind.ArgumentConflict) }
 {
     refusal_of(alloc, "show", ErrorKind::ArgumentConflict, JSON_WITH_MORE)
 }
 
-/// The refusal of a word for `--color` that doesn't say when to colour.
+/// Makes the error for a `--color` of another word than `auto`, `always` and `never`.
 pub(crate) fn unknown_color_error(alloc: Global) -> Result<Error, AllocError>
     ensures { IfOk result (λ e. kind_of e ≡ ErrorKind.InvalidValue) }
 {
     refusal_of(alloc, "show", ErrorKind::InvalidValue, NO_COLOR_WORD)
 }
 
-/// The refusal of a word that is no format.
+/// Makes the error for a `schema` of another word than `graph` and `table`.
 pub(crate) fn unknown_format_error(alloc: Global) -> Result<Error, AllocError>
     ensures { IfOk result (λ e. kind_of e ≡ ErrorKind.InvalidValue) }
 {
     refusal_of(alloc, "schema", ErrorKind::InvalidValue, NO_FORMAT)
 }
 
-/// The refusal of a word that is no shell.
+/// Makes the error for `completions` of another word than `bash`, `zsh` and `fish`.
 pub(crate) fn unknown_shell_error(alloc: Global) -> Result<Error, AllocError>
     ensures { IfOk result (λ e. kind_of e ≡ ErrorKind.InvalidValue) }
 {

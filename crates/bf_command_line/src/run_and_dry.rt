@@ -11,8 +11,8 @@ use crate::value::{is_flag_set, optional_text, required_text};
 use clap::{ArgMatches, Error};
 use std::alloc::Global;
 
-/// What `run`, which is `name`, asks for, by what `clap` found; with `--keep` to go on from a report, with nothing
-/// cleared. Refuses a missing or doubled range, journal options without a journal, and an empty name of logs.
+/// Reads what `run`, which is `name`, asks for; with `--keep`, a `clear` that clears nothing. `Err` where the range is
+/// missing or doubled, a journal option has no journal, the name of logs is empty, or memory runs out.
 pub(crate) fn run_asked(alloc: Global, name: &str, matches: &ArgMatches<'_>) -> Result<Asked, Error>
     ensures ok { IfOk result (IsAskedBy (Some (codes "run", rows_of (found_of matches.now)))) }
     ensures err { FailsBy (programs_wrongs (rows_of (found_of matches.now))) result }
@@ -36,8 +36,8 @@ pub(crate) fn run_asked(alloc: Global, name: &str, matches: &ArgMatches<'_>) -> 
     }
 }
 
-/// What `dry`, which is `name`, asks for, by what `clap` found; with `--keep` to go on from a report, with nothing
-/// cleared. Refuses a line without a range, or with two.
+/// Reads what `dry`, which is `name`, asks for; with `--keep`, a `clear` over the table that clears nothing. `Err`
+/// where the range is missing or doubled, or at want of memory.
 pub(crate) fn dry_asked(alloc: Global, name: &str, matches: &ArgMatches<'_>) -> Result<Asked, Error>
     ensures ok { IfOk result (IsAskedBy (Some (codes "dry", rows_of (found_of matches.now)))) }
     ensures err { FailsBy (range_wrongs (rows_of (found_of matches.now))) result }

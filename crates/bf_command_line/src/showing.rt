@@ -12,7 +12,7 @@ use crate::value::{is_flag_set, is_given, optional_number, optional_text, requir
 use clap::{ArgMatches, Error};
 use std::alloc::Global;
 
-/// Whether an argument of `show` is given that `--json` doesn't go with.
+/// Whether `show` has a file or an option that only its grid takes, and not `--json`.
 fn has_grid_options(matches: &ArgMatches<'_>) -> bool
     ensures { result ≡ has_grid_options_in (rows_of (found_of matches.now)) }
 {
@@ -26,8 +26,8 @@ fn has_grid_options(matches: &ArgMatches<'_>) -> bool
         || is_flag_set(matches, "failed")
 }
 
-/// What `show` asks for where a grid is shown, by what `clap` found. Refuses a word of `--color` that it doesn't
-/// know.
+/// Reads what `show` without `--json` asks for. `Err` where `--color` has another word than `auto`, `always` and
+/// `never`, a file is missing, or memory runs out.
 fn grid_asked(alloc: Global, matches: &ArgMatches<'_>) -> Result<Asked, Error>
     requires { is_given_in (codes "json") (rows_of (found_of matches.now)) ≡ false }
     ensures ok { IfOk result (IsAskedBy (Some (codes "show", rows_of (found_of matches.now)))) }
@@ -46,8 +46,8 @@ fn grid_asked(alloc: Global, matches: &ArgMatches<'_>) -> Result<Asked, Error>
     }))
 }
 
-/// What `show` asks for, by what `clap` found: a grid, or lines of JSON. Refuses a line without a report, or with
-/// `--json` and another argument.
+/// Reads what `show` asks for: a grid, or with `--json` lines of JSON. `Err` where graph and report or `--json` are
+/// missing, `--json` has anything beside it, `--color` an unknown word, or memory runs out.
 pub(crate) fn show_asked(alloc: Global, matches: &ArgMatches<'_>) -> Result<Asked, Error>
     ensures ok { IfOk result (IsAskedBy (Some (codes "show", rows_of (found_of matches.now)))) }
     ensures err { FailsBy (show_wrongs (rows_of (found_of matches.now))) result }

@@ -6,7 +6,7 @@ ghost use Rattle.bf_command_line.specs.Asked.{texts_in, is_given_in, IsIntegerIf
 use clap::ArgMatches;
 use std::alloc::{AllocError, Global};
 
-/// How many values `clap` found for the argument `id`; 0 where it isn't given.
+/// Counts the values that `clap` found for the argument `id`; 0 where it isn't given.
 pub(crate) fn value_count_of(matches: &ArgMatches<'_>, id: &str) -> usize
     ensures { result ≡ length (texts_in id.now (rows_of (found_of matches.now))) }
 {
@@ -16,7 +16,7 @@ pub(crate) fn value_count_of(matches: &ArgMatches<'_>, id: &str) -> usize
     }
 }
 
-/// The value at `place`, from 0, of those that `clap` found for the argument `id`; None where there are fewer.
+/// Answers the value at `place`, from 0, that `clap` found for the argument `id`; None where there are fewer.
 pub(crate) fn text_at<'a>(matches: &ArgMatches<'a>, id: &str, place: usize) -> Option<&'a str>
     ensures { option_map (λ t. t.now) result
         ≡ slice_get (texts_in id.now (rows_of (found_of matches.now))) place }
@@ -27,8 +27,7 @@ pub(crate) fn text_at<'a>(matches: &ArgMatches<'a>, id: &str, place: usize) -> O
     }
 }
 
-/// A copy of the value at `place`, from 0, of those of the argument `id`. AllocError where there are fewer, or memory
-/// is wanting.
+/// Copies the value at `place`, from 0, of the argument `id`. `Err` where there are fewer, or at want of memory.
 pub(crate) fn required_text_at(
     alloc: Global,
     matches: &ArgMatches<'_>,
@@ -44,7 +43,7 @@ pub(crate) fn required_text_at(
     }
 }
 
-/// A copy of the first value of the argument `id`; None where it has none.
+/// Copies the first value of the argument `id`; None where it has none.
 #[tactic(auto, using(crate::proofs::Rows::first_rows))]
 pub(crate) fn optional_text(
     alloc: Global,
@@ -60,8 +59,7 @@ pub(crate) fn optional_text(
     }
 }
 
-/// A copy of the first value of the argument `id`. AllocError where it has none, which `clap` has ruled out, or
-/// memory is wanting.
+/// Copies the first value of the argument `id`. `Err` where it has none, which `clap` rules out, or at want of memory.
 #[tactic(auto, using(crate::proofs::Rows::first_rows))]
 pub(crate) fn required_text(
     alloc: Global,
@@ -77,7 +75,7 @@ pub(crate) fn required_text(
     }
 }
 
-/// Whether the flag `id` was given.
+/// Whether the flag `id` is given.
 #[tactic(auto, using(crate::proofs::Rows::first_rows))]
 pub(crate) fn is_flag_set(matches: &ArgMatches<'_>, id: &str) -> bool
     ensures { result ≡ says_true (first_of id.now (rows_of (found_of matches.now))) }
@@ -88,7 +86,7 @@ pub(crate) fn is_flag_set(matches: &ArgMatches<'_>, id: &str) -> bool
     }
 }
 
-/// Whether the first value of the argument `id` is this word; false where it has none.
+/// Whether the first value of the argument `id` is `words`; false where it has none.
 #[tactic(auto, using(crate::proofs::Rows::first_rows))]
 pub(crate) fn says_word(matches: &ArgMatches<'_>, id: &str, words: &str) -> bool
     ensures { result ≡ says_word_in (first_of id.now (rows_of (found_of matches.now))) words.now }
@@ -99,8 +97,8 @@ pub(crate) fn says_word(matches: &ArgMatches<'_>, id: &str, words: &str) -> bool
     }
 }
 
-/// The number that the option `id` says; None where it isn't given. AllocError where it says no number, which `clap`
-/// has ruled out.
+/// Answers the number, 0 or more, that the option `id` has; None where it isn't given. `Err` where it isn't such a
+/// number, which `clap` rules out.
 #[tactic(auto, using(crate::proofs::Rows::first_rows))]
 pub(crate) fn optional_number(matches: &ArgMatches<'_>, id: &str) -> Result<Option<u32>, AllocError>
     ensures { IfOk result (IsNumberIfGiven (first_of id.now (rows_of (found_of matches.now)))) }
@@ -114,8 +112,8 @@ pub(crate) fn optional_number(matches: &ArgMatches<'_>, id: &str) -> Result<Opti
     }
 }
 
-/// The whole number, maybe negative, that the option `id` says; None where it isn't given. AllocError where it says
-/// no number, which `clap` has ruled out.
+/// Answers the integer, maybe negative, that the option `id` has; None where it isn't given. `Err` where it isn't one,
+/// which `clap` rules out.
 #[tactic(auto, using(crate::proofs::Rows::first_rows))]
 pub(crate) fn optional_integer(
     matches: &ArgMatches<'_>,

@@ -11,7 +11,7 @@ use crate::value::{is_flag_set, optional_integer, optional_text, required_text};
 use clap::{ArgMatches, Error};
 use std::alloc::{AllocError, Global};
 
-/// What `page` asks for, by what `clap` found.
+/// Reads what `page` asks for.
 pub(crate) fn page_asked(alloc: Global, matches: &ArgMatches<'_>) -> Result<Asked, AllocError>
     ensures { IfOk result (IsAskedBy (Some (codes "page", rows_of (found_of matches.now)))) }
 {
@@ -23,8 +23,8 @@ pub(crate) fn page_asked(alloc: Global, matches: &ArgMatches<'_>) -> Result<Aske
     }))
 }
 
-/// The task that `explain` names, with its map index where it names one; None where no task is named. Refuses a map
-/// index without a task.
+/// Reads the task that `explain` names, and its map index where it names one; None where no task is named. `Err` where
+/// `--index` is given without `--task`, or at want of memory.
 fn task_asked(alloc: Global, matches: &ArgMatches<'_>) -> Result<Option<TaskAsked>, Error>
     ensures ok { IfOk result (IsTaskBy (rows_of (found_of matches.now))) }
     ensures err { FailsBy (explain_wrongs (rows_of (found_of matches.now))) result }
@@ -37,7 +37,7 @@ fn task_asked(alloc: Global, matches: &ArgMatches<'_>) -> Result<Option<TaskAske
     }
 }
 
-/// What `explain` asks for, by what `clap` found. Refuses a map index without a task.
+/// Reads what `explain` asks for. `Err` where `--index` is given without `--task`, or at want of memory.
 pub(crate) fn explain_asked(alloc: Global, matches: &ArgMatches<'_>) -> Result<Asked, Error>
     ensures ok { IfOk result (IsAskedBy (Some (codes "explain", rows_of (found_of matches.now)))) }
     ensures err { FailsBy (explain_wrongs (rows_of (found_of matches.now))) result }
@@ -51,7 +51,7 @@ pub(crate) fn explain_asked(alloc: Global, matches: &ArgMatches<'_>) -> Result<A
     }))
 }
 
-/// What `answers` asks for, by what `clap` found: the path of a report.
+/// Reads what `answers` asks for: the path of a report.
 pub(crate) fn answers_asked(alloc: Global, matches: &ArgMatches<'_>) -> Result<Asked, AllocError>
     ensures { IfOk result (IsAskedBy (Some (codes "answers", rows_of (found_of matches.now)))) }
 {

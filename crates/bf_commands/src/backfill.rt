@@ -34,8 +34,8 @@ use std::sync::Wait;
 use std::thread::Threads;
 use std::time::Clock;
 
-/// The starts of these data intervals, in their order.
-fn starts_of(alloc: Global, intervals: &[Interval]) -> Result<Vec<Timestamp>, OutOfMemory>
+/// Lists the starts of these data intervals, in their order.
+fn interval_starts(alloc: Global, intervals: &[Interval]) -> Result<Vec<Timestamp>, OutOfMemory>
     ensures { IfOk result (λ starts. starts.items ≡ map (λ i. i.start) intervals.now) }
 {
     Ok(
@@ -46,7 +46,7 @@ fn starts_of(alloc: Global, intervals: &[Interval]) -> Result<Vec<Timestamp>, Ou
     )
 }
 
-/// A runner that answers each try of these runs from a table.
+/// Makes a runner that answers each try of these runs from the table.
 pub(crate) fn runner_over<'p>(
     alloc: Global,
     plan: &'p Plan,
@@ -55,11 +55,12 @@ pub(crate) fn runner_over<'p>(
 ) -> Result<TableRunner<'p>, OutOfMemory>
     ensures { IfOk result (λ runner. runner ≡ answering plan.entry.now.dag table runs.now) }
 {
-    let starts = starts_of(alloc, runs.intervals())?;
+    let starts = interval_starts(alloc, runs.intervals())?;
     TableRunner::new(alloc, table, plan, &starts)
 }
 
-/// Runs a backfill to its end in the calling thread. Kept tries end as they did; a table answers the others.
+/// Runs a backfill to its end in the calling thread. Kept tries end as they did; a table answers the others. `Err` only
+/// at want of memory.
 fn resume_alone<'p, K: KeptTries>(
     plan: &'p Plan,
     runs: &Runs,
@@ -77,8 +78,8 @@ fn resume_alone<'p, K: KeptTries>(
     }
 }
 
-/// Runs a backfill to its end. Tries in `kept` end as they did; a table answers the others. A delay between tries
-/// takes no time. A fault where memory is wanting or a thread can't be started.
+/// Runs a backfill to its end without waiting for the delays between tries. Tries in `kept` end as they did; a table
+/// answers the others. `Err` where memory runs out, or with progress, where a thread can't be started.
 fn resume_over_table<'p, RT: Screen + Threads + Wait + Clock + Sync, K: KeptTries + Sync>(
     crew: &Crew<'_, RT>,
     plan: &'p Plan,
@@ -109,9 +110,9 @@ fn resume_over_table<'p, RT: Screen + Threads + Wait + Clock + Sync, K: KeptTrie
     }
 }
 
-/// Runs a backfill to its end. Tries in `kept` end as they did; the others are programs. Tells on the screen where
-/// logs are incomplete. A fault where a program can't be waited for, a log can't be made, or a thread can't be
-/// started.
+/// Runs a backfill to its end, and tells on the screen where logs are incomplete. Tries in `kept` end as they did;
+/// programs make the others. `Err` where a thread can't be started, a program can't be waited for, a log can't be made,
+/// or memory runs out.
 fn resume_by_programs<
     'p,
     RT: Starter + Screen + Threads + Wait + Clock + Sync,
@@ -145,8 +146,8 @@ fn resume_by_programs<
     }
 }
 
-/// Runs a backfill to its end. Tries in `kept` end as they did; the others are answered by the table, or are programs
-/// where `answers` is None.
+/// Runs a backfill to its end. Tries in `kept` end as they did; `answers` answers the others, or programs make them
+/// where it is None. `Err` where the backfill stops early or memory runs out; a table never stops at a try.
 fn resume_backfill<'p, RT: Starter + Screen + Threads + Wait + Clock + Sync, K: KeptTries + Sync>(
     crew: &Crew<'_, RT>,
     plan: &'p Plan,
@@ -171,8 +172,9 @@ fn resume_backfill<'p, RT: Starter + Screen + Threads + Wait + Clock + Sync, K: 
     }
 }
 
-/// Runs a backfill to its end and writes its report; true where every run is a success. Tries in `kept` end as they
-/// did; the others are answered by the table, or are programs where `answers` is None.
+/// Runs a backfill to its end and writes its report; true where every run succeeded. Tries in `kept` end as they did;
+/// `answers` answers the others, or programs make them where it is None. `Err` where the backfill stops early, `out`
+/// fails, or memory runs out.
 pub(crate) fn write_backfill<
     RT: Starter + Screen + Threads + Wait + Clock + Sync,
     K: KeptTries + Sync,

@@ -15,7 +15,7 @@ ghost use Rattle.bf_planning.specs.Clocks.{clocks_in};
 ghost use Rattle.bf_commands.specs.Programs.{launched_in, with_clocks};
 
 use crate::backfill::write_backfill;
-use crate::cleared::{ToClear, keep_uncleared, kept_of, places_to_clear};
+use crate::cleared::{ToClear, keep_outside, keep_uncleared, places_to_clear};
 use crate::crew::Crew;
 use crate::heading::cleared_tasks_of;
 use crate::journal::Journal;
@@ -34,7 +34,7 @@ use std::sync::Wait;
 use std::thread::Threads;
 use std::time::Clock;
 
-/// The table in these bytes; None where there are no bytes. A fault where they are no table.
+/// Reads the table in these bytes; None where there are none. `Err` where they aren't a table, or at want of memory.
 fn answers_in(alloc: Global, table: Option<&[u8]>) -> Result<Option<Table>, CommandFault>
     ensures ok { IfOk result (λ answers. AreAnswersIn (option_map (λ s. s.now) table.entry)
         answers) }
@@ -49,16 +49,16 @@ fn answers_in(alloc: Global, table: Option<&[u8]>) -> Result<Option<Table>, Comm
     }
 }
 
-/// What the files of the command hold but for the report: a plan with its runs, and the answers of the table, None
-/// where no table is named.
+/// What the files of a command hold besides the report: a plan with its runs, and the table's answers, None where no
+/// table is named.
 #[derive(Drop)]
 pub struct Prepared {
     pub dated: DatedPlan,
     pub answers: Option<Table>,
 }
 
-/// The plan of a graph file with its runs in a range, and the answers of a table, None where there are no bytes of
-/// one. The graph's faults go before the table's, and these before the range's.
+/// Makes the plan of a graph file with its runs in a range, and reads the table, where there is one. `Err` where the
+/// graph, the table or the range is refused, looked at in this order, or at want of memory.
 pub fn prepare_backfill(
     alloc: Global,
     graph: &[u8],
@@ -79,8 +79,8 @@ pub fn prepare_backfill(
     Ok(Prepared { dated, answers })
 }
 
-/// A backfill that goes on from its report: its plan and runs, the tries that are kept of the report, and the tasks
-/// that the head of its journal says are cleared.
+/// A backfill that goes on from a report: its plan and runs, what the report keeps, and the cleared tasks as the head
+/// of its journal names them.
 #[derive(Drop)]
 pub struct Clearing<'a> {
     pub dated: &'a DatedPlan,
@@ -88,9 +88,9 @@ pub struct Clearing<'a> {
     pub cleared: Vec<ClearedTask>,
 }
 
-/// What is kept of a report where `what` is cleared with all that follows from it. A fault where the report isn't of
-/// this graph and, unless nothing is cleared, these runs, or a seed or line names nothing in it. Nothing is run or
-/// written.
+/// Clears `what` in a report with all that follows from it; runs and writes nothing. `Err` where a seed or line names
+/// nothing in it, the report isn't of this graph and these runs (of this graph, where nothing is cleared), or memory
+/// runs out.
 pub fn clear_in_report<'a>(
     alloc: Global,
     dated: &'a DatedPlan,
@@ -105,7 +105,7 @@ pub fn clear_in_report<'a>(
         what) }
 {
     let places = places_to_clear(alloc, dated, &report, &what)?;
-    let kept = kept_of(alloc, dated, report, &what, places.as_slice())?;
+    let kept = keep_outside(alloc, dated, report, &what, places.as_slice())?;
     let cleared = cleared_tasks_of(alloc, &dated.plan, &dated.runs, places.as_slice())?;
     Ok(Clearing {
         dated,
@@ -114,8 +114,9 @@ pub fn clear_in_report<'a>(
     })
 }
 
-/// Goes on from a report, of which `what` is cleared with all that follows from it, and writes the new report; true
-/// where every run is a success. A table answers the other tries, or programs where `answers` is None.
+/// Clears `what` in a report with all that follows from it, makes these tries, and writes the new report; true where
+/// every run succeeded. `answers` answers them; None starts programs. `Err` where report or `what` is refused, the
+/// backfill stops early, `out` fails, or memory runs out.
 fn write_report_after<RT: Starter + Screen + Threads + Wait + Clock + Sync, W: Write>(
     crew: &Crew<'_, RT>,
     dated: &DatedPlan,
@@ -147,8 +148,9 @@ fn write_report_after<RT: Starter + Screen + Threads + Wait + Clock + Sync, W: W
     written
 }
 
-/// Goes on from a report, of which `what` is cleared with all that follows from it, and writes the new report; true
-/// where every run is a success. A table answers the other tries where one was prepared, else programs.
+/// Clears `what` in a report with all that follows from it, makes these tries, and writes the new report; true where
+/// every run succeeded. The prepared table answers them; programs do where there is none. `Err` where report or `what`
+/// is refused, the backfill stops early, `out` fails, or memory runs out.
 pub fn write_resumed_report<RT: Starter + Screen + Threads + Wait + Clock + Sync, W: Write>(
     crew: &Crew<'_, RT>,
     prepared: Prepared,
@@ -178,8 +180,9 @@ pub fn write_resumed_report<RT: Starter + Screen + Threads + Wait + Clock + Sync
     written
 }
 
-/// Goes on from a journal, and else from what is kept of a report, and writes the new report. Each other try is
-/// recorded in the journal as it ends; a table answers it, or a program where `answers` is None.
+/// Takes each try from the journal or else from what the report keeps, makes and records the others, and writes the new
+/// report. `answers` answers them; None starts programs. `report` is `Err` where the journal is refused, the backfill
+/// stops early, `out` fails, or memory runs out.
 pub fn record_resumed_report<RT, D, W>(
     crew: &Crew<'_, RT>,
     clearing: &Clearing<'_>,

@@ -19,8 +19,8 @@ use bf_report::Report;
 use bf_value::OutOfMemory;
 use std::alloc::Global;
 
-/// Adds the line of a cleared task, with its line feed: the start of its run, its id, and its map index where it has
-/// one.
+/// Appends the line of a cleared task: the start of its run, its id, and its map index where only one instance is
+/// cleared.
 fn push_cleared(text: &mut String, cleared: &ClearedTask) -> Result<(), OutOfMemory>
     ensures { OnOk result (string_bytes text.new ≡ string_bytes text.old
         ++ cleared_line cleared.now) }
@@ -33,7 +33,7 @@ fn push_cleared(text: &mut String, cleared: &ClearedTask) -> Result<(), OutOfMem
     Ok(())
 }
 
-/// A line for each of these cleared tasks, with its line feed.
+/// Gives a line for each of these cleared tasks, in their order.
 fn lines_of(alloc: Global, cleared: &[ClearedTask]) -> Result<String, OutOfMemory>
     ensures { IfOk result (λ text. string_bytes text ≡ flat_map cleared_line cleared.now) }
 {
@@ -44,7 +44,7 @@ fn lines_of(alloc: Global, cleared: &[ClearedTask]) -> Result<String, OutOfMemor
     Ok(text)
 }
 
-/// The place before the one at index `place`; None for the first and where there is none.
+/// The place at index `place - 1`; None where `place` is 0, or greater than how many places there are.
 fn place_before(places: &[Place], place: usize) -> Option<&Place>
     ensures { option_copied result ≡ place_before_in places.now place }
 {
@@ -54,7 +54,7 @@ fn place_before(places: &[Place], place: usize) -> Option<&Place>
     places.get(place - 1)
 }
 
-/// Whether the place at index `place` is in another run than the one before it; true where either isn't there.
+/// Whether `places[place]` is in another run than the place before it. True for the first place, and past the last.
 fn begins_run(places: &[Place], place: usize) -> bool
     ensures { result ≡ begins_run_in places.now place }
 {
@@ -64,8 +64,8 @@ fn begins_run(places: &[Place], place: usize) -> bool
     }
 }
 
-/// Whether the place at index `place` is of another task or run than the one before it; true where either isn't
-/// there.
+/// Whether `places[place]` is in another run, or of another task, than the place before it. True for the first place,
+/// and past the last.
 fn begins_task(places: &[Place], place: usize) -> bool
     ensures { result ≡ begins_task_in places.now place }
 {
@@ -75,7 +75,7 @@ fn begins_task(places: &[Place], place: usize) -> bool
     }
 }
 
-/// How many runs these places are in, where those in one run are next to each other.
+/// Counts the runs of these places. Places of one run have to stand together, else it counts twice.
 fn count_runs(places: &[Place]) -> usize
     ensures { result ≡ runs_in places.now }
 {
@@ -86,7 +86,7 @@ fn count_runs(places: &[Place]) -> usize
     count
 }
 
-/// How many tasks in runs these places are of, where those of one task in a run are next to each other.
+/// Counts the tasks in runs of these places. Places of one task in a run have to stand together, else it counts twice.
 fn count_tasks(places: &[Place]) -> usize
     ensures { result ≡ tasks_in places.now }
 {
@@ -97,7 +97,7 @@ fn count_tasks(places: &[Place]) -> usize
     count
 }
 
-/// Adds the last line, with its line feed, as `3 tasks in 2 runs`. There is no singular.
+/// Appends the last line of a plan, with its line feed, such as `3 tasks in 2 runs`; the nouns stay plural for 1.
 fn push_sum(text: &mut String, places: &[Place]) -> Result<(), OutOfMemory>
     ensures { OnOk result (string_bytes text.new ≡ string_bytes text.old ++ sum_line places.now) }
 {
@@ -106,8 +106,8 @@ fn push_sum(text: &mut String, places: &[Place]) -> Result<(), OutOfMemory>
     Ok(())
 }
 
-/// A line for each of these cleared places, and their sum.
-fn plan_text_of(alloc: Global, dated: &DatedPlan, places: &[Place]) -> Result<String, OutOfMemory>
+/// Gives a line for each of these cleared places, and a last line that counts them.
+fn lines_with_sum(alloc: Global, dated: &DatedPlan, places: &[Place]) -> Result<String, OutOfMemory>
     ensures { IfOk result (λ text. IsPlanText dated.now.plan.dag dated.now.runs places.now
         (string_bytes text)) }
 {
@@ -117,8 +117,9 @@ fn plan_text_of(alloc: Global, dated: &DatedPlan, places: &[Place]) -> Result<St
     Ok(text)
 }
 
-/// The text of a clear plan of what follows from what is cleared: a line for each cleared task in a run, and their sum.
-fn plan_text_after(
+/// Lists what `kept` says is cleared with all that follows: a line for each task in a run, and a last line that counts
+/// them. `Err` only at want of memory.
+fn followers_text(
     alloc: Global,
     dated: &DatedPlan,
     kept: &Cleared<'_>,
@@ -129,11 +130,11 @@ fn plan_text_after(
 {
     let runs = dated.runs.intervals().len() as u32;
     let places = kept.followers().places(alloc, &dated.plan, runs)?;
-    Ok(plan_text_of(alloc, dated, places.as_slice())?)
+    Ok(lines_with_sum(alloc, dated, places.as_slice())?)
 }
 
-/// The text of a clear plan: a line for each cleared task in a run, and their sum. A fault where the report isn't of
-/// this graph and these runs, or what is to be cleared isn't in it.
+/// Lists what clearing `what` in a report clears with all that follows: a line for each task in a run, and a last line
+/// that counts them. `Err` where the report isn't of this graph and these runs, `what` isn't in it, or memory runs out.
 fn clear_plan_text(
     alloc: Global,
     dated: &DatedPlan,
@@ -145,14 +146,14 @@ fn clear_plan_text(
     ensures fault { IfErr result (IsUncleared dated.now.plan.dag dated.now.runs report what.now) }
 {
     let kept = keep_uncleared(alloc, dated, report, what)?;
-    let text = plan_text_after(alloc, dated, &kept);
+    let text = followers_text(alloc, dated, &kept);
     drop(kept);
     text
 }
 
-/// Writes what is cleared in a report, with all that follows from it: a line for each task in a run, by date and in
-/// file order, or for each instance where others of its task aren't cleared, and how many tasks and runs these are.
-/// Nothing is run.
+/// Writes what clearing `what` in a report clears with all that follows: a line for each task in a run, by date and in
+/// file order, or for each instance where only some of a task are cleared, and a last line that counts them. Runs
+/// nothing. `Err` where report or `what` is refused, `out` fails, or memory runs out.
 pub fn write_clear_plan<W: Write>(
     alloc: Global,
     dated: &DatedPlan,

@@ -17,20 +17,21 @@ use bf_report::Report;
 use bf_seeds::read_seeds;
 use std::alloc::Global;
 
-/// What is cleared.
+/// What is to be cleared in a report.
 #[derive(Drop)]
 pub enum ToClear {
-    /// These tasks in runs, or instances of them.
+    /// These tasks in runs, or single instances of them.
     Seeds(Vec<Seed>),
-    /// Those that the lines of a file name, which has these bytes.
+    /// What the lines of a seeds file name; these are its bytes.
     File(Vec<u8>),
     /// Each instance that failed.
     Failed,
-    /// Nothing. So the report is kept of a backfill whatever shape its graph had, and whatever runs there were.
+    /// Nothing. The report's tries are kept by data interval and task id, though graph or range may have changed since.
     Nothing,
 }
 
-/// The places that seeds name in a plan and its runs. A fault where a seed names none.
+/// Finds the places that seeds name in a plan and its runs. `Err` where a seed's task or run is unknown, or at want of
+/// memory.
 fn places_of_seeds(
     alloc: Global,
     dated: &DatedPlan,
@@ -47,8 +48,8 @@ fn places_of_seeds(
     Ok(places_of(alloc, &dated.plan, intervals, seeds)?)
 }
 
-/// The places of a report that are to be cleared, without what follows from them. A fault where a seed names none or
-/// the seeds file is wrong.
+/// Finds what is to be cleared in a report, without what follows from it. `Err` where a seed's task or run is unknown,
+/// the seeds file is refused, or memory runs out.
 pub(crate) fn places_to_clear(
     alloc: Global,
     dated: &DatedPlan,
@@ -71,9 +72,9 @@ pub(crate) fn places_to_clear(
     }
 }
 
-/// What is kept of a report where these places are cleared with what follows from them. A fault where the report
-/// isn't of this graph and, unless `what` is nothing, of these tasks and runs.
-pub(crate) fn kept_of<'a>(
+/// Keeps what a report has outside of these places and what follows from them. `Err` where the report isn't of this
+/// graph and these runs (of this graph, where `what` is nothing), or at want of memory.
+pub(crate) fn keep_outside<'a>(
     alloc: Global,
     dated: &'a DatedPlan,
     report: Report,
@@ -96,8 +97,8 @@ pub(crate) fn kept_of<'a>(
     }
 }
 
-/// What is kept of a report where `what` is cleared with all that follows from it, and what follows. A fault where the
-/// report isn't of this graph and, unless `what` is nothing, of these tasks and runs, or a seed or line names nothing.
+/// Keeps what a report has outside of `what` and all that follows from it. `Err` where a seed or line names nothing in
+/// it, the report isn't of this graph and these runs (of this graph, where `what` is nothing), or memory runs out.
 pub(crate) fn keep_uncleared<'a>(
     alloc: Global,
     dated: &'a DatedPlan,
@@ -113,5 +114,5 @@ pub(crate) fn keep_uncleared<'a>(
         what.now) }
 {
     let places = places_to_clear(alloc, dated, &report, what)?;
-    Ok(kept_of(alloc, dated, report, what, places.as_slice())?)
+    Ok(keep_outside(alloc, dated, report, what, places.as_slice())?)
 }

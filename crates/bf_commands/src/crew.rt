@@ -24,15 +24,15 @@ use std::thread;
 use std::thread::{Scope, Threads};
 use std::time::Clock;
 
-/// What is told unasked beside the report while programs run: progress, and which tries fail.
+/// What is told on the screen without being asked for, besides the report: progress, and each try that fails.
 #[derive(Clone, Copy, Debug, Drop)]
 pub struct Tells {
     pub progress: bool,
     pub failures: bool,
 }
 
-/// A machine that tries run on, with its memory, how many of them may run at once, whether progress is asked for,
-/// what is told beside, and how programs are launched.
+/// What a backfill runs on: the machine and its memory, how many tries may run at once, how programs are launched,
+/// whether `--progress` is given, and what else is told on the screen.
 #[derive(Drop)]
 pub struct Crew<'m, RT> {
     pub rt: &'m RT,
@@ -44,7 +44,7 @@ pub struct Crew<'m, RT> {
 }
 
 impl<'m, RT> Crew<'m, RT> {
-    /// The crew for so many workers, with progress where asked for; it tells nothing else, has no launcher and keeps
+    /// Makes a crew of so many workers, with progress where asked for; it tells nothing else, and has no launcher and
     /// no logs.
     pub fn new(rt: &'m RT, alloc: Global, workers: Workers, progress: bool) -> Crew<'m, RT>
         ensures machine { result.rt ≡ rt.entry }
@@ -68,7 +68,7 @@ impl<'m, RT> Crew<'m, RT> {
         }
     }
 
-    /// This crew, which launches programs by `launching`, and tells unasked what `tells` says.
+    /// Changes how the crew launches programs, and what it tells without being asked.
     pub fn with_launching(self, launching: Launching<'m>, tells: Tells) -> Crew<'m, RT>
         ensures machine { result.rt ≡ self.entry.rt }
         ensures workers { result.workers ≡ self.entry.workers }
@@ -85,7 +85,8 @@ impl<'m, RT> Crew<'m, RT> {
         }
     }
 
-    /// This crew for other runs; `clocks` has for each what the clocks of the graph's zone show at its moment.
+    /// Gives this crew for the runs of a plan. `clocks` has for each run, in order of date, the local time at its start
+    /// in the graph's zone.
     pub(crate) fn with_clocks<'c>(&self, clocks: &'c [Moment]) -> Crew<'c, RT>
     where
         'm: 'c,
@@ -108,8 +109,8 @@ impl<'m, RT> Crew<'m, RT> {
         }
     }
 
-    /// A backfill of this crew that stopped: its plan, its runs, its folder of logs, and whether a log couldn't be
-    /// made. `log_faults` is None where no programs were started.
+    /// Gathers what is told of a backfill that stopped early: its plan and runs, the folder of logs, and whether a log
+    /// couldn't be made. `log_faults` is None where no programs were started.
     pub(crate) fn stopped_backfill<'a>(
         &self,
         plan: &'a Plan,
@@ -134,8 +135,8 @@ impl<'m, RT> Crew<'m, RT> {
         }
     }
 
-    /// Whether the calling thread makes the tries that a table answers: where progress isn't asked for. Else workers
-    /// make them, though to hand a try over takes longer than to answer it.
+    /// Whether a table's answers are given in the calling thread, without workers: where progress isn't asked for.
+    /// Handing a try over to a worker takes longer than answering it.
     pub(crate) fn is_single_threaded(&self) -> bool
         ensures { result ≡ is_single_threaded_in self.now.progress }
     {
@@ -144,8 +145,9 @@ impl<'m, RT> Crew<'m, RT> {
 }
 
 impl<'m, RT: Screen + Threads + Wait + Clock + Sync> Crew<'m, RT> {
-    /// Runs a backfill to its end by the workers, from tries that are kept, and shows its events to an observer. A
-    /// fault where memory is wanting, a thread can't be started, or a try was given up.
+    /// Runs a backfill to its end by the workers, and shows each event to `observer`. Kept tries end as they did; the
+    /// runner in `keeping` makes the others. `Err` where a thread can't be started, the runner gives up a try that
+    /// isn't kept, or memory runs out.
     fn resume_observed<'p, K, R, C, O>(
         &self,
         plan: &'p Plan,
@@ -178,8 +180,9 @@ impl<'m, RT: Screen + Threads + Wait + Clock + Sync> Crew<'m, RT> {
         )
     }
 
-    /// Runs a backfill to its end by the workers, beside a thread that tells its progress on the screen. Where this
-    /// thread can't be started, only the last line is told.
+    /// Runs a backfill to its end by the workers, beside a thread that shows progress on the screen; where that thread
+    /// can't be started, shows only the last line. `Err` where a worker can't be started, a try that isn't kept is
+    /// given up, or memory runs out.
     fn resume_with_progress<'s, 'p, E, K, R, C>(
         &self,
         scope: &Scope<'s, E>,
@@ -210,9 +213,9 @@ impl<'m, RT: Screen + Threads + Wait + Clock + Sync> Crew<'m, RT> {
         ended
     }
 
-    /// Runs a backfill to its end by the workers, from tries that are kept. Its progress is told on the screen where
-    /// it is asked for, or told unasked. A fault where memory is wanting, a thread can't be started, or a try was
-    /// given up.
+    /// Runs a backfill to its end by the workers, and shows its progress where that is asked for or told anyway. Kept
+    /// tries end as they did. `Err` where a thread can't be started, a try that isn't kept is given up, or memory runs
+    /// out.
     pub(crate) fn resume_by_workers<
         'p,
         K: KeptTries + Sync,

@@ -19,8 +19,9 @@ use std::sync::Wait;
 use std::thread::Threads;
 use std::time::Clock;
 
-/// Runs a plan once for each data interval that starts in the range, its ends included, answering its tries from a
-/// table, and writes the report; true where every run is a success. The table's faults go before the range's.
+/// Runs a plan once for each data interval that starts in the range, with a table's answers, and writes the report;
+/// true where every run succeeded. `Err` where the table or then the range is refused, a thread can't be started, `out`
+/// fails, or memory runs out.
 fn write_dry<RT: Starter + Screen + Threads + Wait + Clock + Sync, W: Write>(
     crew: &Crew<'_, RT>,
     timed: &TimedPlan,
@@ -47,9 +48,9 @@ fn write_dry<RT: Starter + Screen + Threads + Wait + Clock + Sync, W: Write>(
     write_backfill(crew, &timed.plan, &runs, &NothingKept, Some(table), out)
 }
 
-/// Runs a graph once for each data interval that starts in the range, its ends included, answering its tries from a
-/// table, and writes the report; true where every run is a success. The graph's faults go before the table's, and
-/// these before the range's. The text is the same however many workers there are.
+/// Runs a graph once for each data interval that starts in the range, its ends included, with a table's answers, and
+/// writes the report, the same for any number of workers; true where every run succeeded. `Err` where the graph, the
+/// table or then the range is refused, a thread can't be started, `out` fails, or memory runs out.
 pub fn run_dry<RT: Starter + Screen + Threads + Wait + Clock + Sync, W: Write>(
     crew: &Crew<'_, RT>,
     graph: &[u8],

@@ -12,8 +12,8 @@ use bf_plan::{Dag, Plan};
 use bf_value::{OutOfMemory, Text};
 use std::alloc::Global;
 
-/// What a journal's head has of a cleared place: its task's id, the start of its run, which `interval` is of, and its
-/// map index.
+/// Names a cleared place as the head of a journal does: by its task's id, the start of its run, which is that of
+/// `interval`, and its map index, None for the whole task.
 fn cleared_task_of(
     alloc: Global,
     dag: &Dag,
@@ -31,7 +31,7 @@ fn cleared_task_of(
     })
 }
 
-/// Adds what a journal's head has of a cleared place to `cleared`; nothing where there is no such run.
+/// Appends to `cleared` how the head of a journal names a cleared place; leaves it as it is where the place has no run.
 fn add_cleared_task(
     alloc: Global,
     dag: &Dag,
@@ -50,7 +50,7 @@ fn add_cleared_task(
     Ok(())
 }
 
-/// What a journal's head has of these cleared places, in order; a place whose run isn't there is left out.
+/// Names these cleared places as the head of a journal does, in their order; leaves out a place whose run isn't there.
 pub(crate) fn cleared_tasks_of(
     alloc: Global,
     plan: &Plan,

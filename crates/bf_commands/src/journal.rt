@@ -16,22 +16,22 @@ use bf_progress::Screen;
 use bf_try::Ledger;
 use std::alloc::Global;
 
-/// A journal that is open.
+/// An open journal, and how a backfill uses it.
 #[derive(Drop)]
 pub struct Journal<D: Cuttable + Drop> {
-    /// What it holds.
+    /// The journal's bytes when it was opened.
     pub held: Vec<u8>,
-    /// What is written to this goes behind that.
+    /// Appends to the journal.
     pub device: D,
-    /// Behind how many failed tries no further one begins.
+    /// After how many failed tries no further one begins; None for any number.
     pub stop_after: Option<u32>,
-    /// Whether failed tries that are recorded are made again.
+    /// Whether recorded tries that failed are made again.
     pub retry_failed: bool,
 }
 
-/// The tries in a journal's bytes. Cuts an unfinished last line off its device, or writes the head where no line is
-/// whole, and tells on the screen what was found. A fault where it is of another backfill, a whole line is no record,
-/// or it can't be written.
+/// Reads a journal's tries and mends its file: cuts off an unfinished last line, or writes the head where no line is
+/// whole. Tells on the screen what it found. `Err` where the journal is of another backfill, a whole line is no record,
+/// its device fails, or memory runs out.
 pub(crate) fn read_and_mend_journal<RT: Screen, D: Cuttable + Drop>(
     rt: &RT,
     alloc: Global,

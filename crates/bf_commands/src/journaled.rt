@@ -40,16 +40,16 @@ use std::sync::Wait;
 use std::thread::Threads;
 use std::time::Clock;
 
-/// What came of a backfill that records its tries: whether every run is a success, where its report was written; and
-/// the device of its journal.
+/// What a backfill with a journal came to: whether every run succeeded, or why there is no report; and the journal's
+/// device.
 #[derive(Drop)]
 pub struct Recorded<D: Cuttable + Drop> {
     pub report: Result<bool, CommandFault>,
     pub device: D,
 }
 
-/// A backfill: its plan and runs, the tries that are kept of one before, and the tasks that the head of its journal
-/// says are cleared.
+/// A backfill to run: its plan and runs, the tries kept from an earlier one, and the cleared tasks as the head of its
+/// journal names them.
 #[derive(Drop)]
 pub(crate) struct Backfill<'a, K> {
     pub(crate) plan: &'a Plan,
@@ -59,7 +59,7 @@ pub(crate) struct Backfill<'a, K> {
 }
 
 /// Runs a backfill to its end. Tries in `kept` end as they did; a table answers the others, and each of these is
-/// recorded as it ends.
+/// recorded as it ends. `ended` is `Err` where it stops early or memory runs out.
 fn record_over_table<'p, RT, K, D>(
     crew: &Crew<'_, RT>,
     plan: &'p Plan,
@@ -101,8 +101,9 @@ where
     crew.resume_recorded(plan, runs, &keeping, record, Jump::new(), None)
 }
 
-/// Runs a backfill to its end. Tries in `kept` end as they did; the others are programs, and each is recorded as it
-/// ends. Tells on the screen where logs are incomplete.
+/// Runs a backfill to its end, and tells on the screen where logs are incomplete. Tries in `kept` end as they did;
+/// programs make the others, and each of these is recorded as it ends. `ended` is `Err` where it stops early or memory
+/// runs out.
 fn record_by_programs<'p, RT, K, D>(
     crew: &Crew<'_, RT>,
     plan: &'p Plan,
@@ -140,8 +141,9 @@ where
     ended
 }
 
-/// Runs a backfill to its end. Tries in `kept` end as they did; the others are answered by the table, or are programs
-/// where `answers` is None, and each is recorded as it ends.
+/// Runs a backfill to its end. Tries in `kept` end as they did; `answers` answers the others, or programs make them
+/// where it is None, and each of these is recorded as it ends. `ended` is `Err` where it stops early or memory runs
+/// out.
 fn record_to_end<'p, RT, K, D>(
     crew: &Crew<'_, RT>,
     plan: &'p Plan,
@@ -173,8 +175,8 @@ where
     }
 }
 
-/// Writes the report of a backfill that has ended; true where every run is a success. Where `stop` says that a record
-/// failed, tells on the screen that the journal isn't whole.
+/// Writes the report of a backfill that has ended; true where every run succeeded. Tells on the screen that the journal
+/// isn't whole where `stop` says that a record failed. `Err` where `out` fails, or at want of memory.
 fn write_report_and_tell<RT: Screen, W: Write>(
     crew: &Crew<'_, RT>,
     runs: &Runs,
@@ -200,8 +202,9 @@ fn write_report_and_tell<RT: Screen, W: Write>(
     Ok(success)
 }
 
-/// Runs a backfill to its end and writes its report. Tries in `kept` end as they did; the others are answered by the
-/// table, or are programs where `answers` is None, and each is recorded as it ends.
+/// Runs a backfill to its end and writes its report. Tries in `kept` end as they did; `answers` answers the others, or
+/// programs make them where it is None, and each of these is recorded as it ends. `report` is `Err` where it stops
+/// early, `out` fails, or memory runs out.
 fn record_and_write_report<RT, K, D, W>(
     crew: &Crew<'_, RT>,
     plan: &Plan,
@@ -252,9 +255,9 @@ where
     }
 }
 
-/// Runs a backfill that goes on from a journal, and else from what was kept before, and writes its report. The other
-/// tries are answered by the table, or are programs where `answers` is None; each is recorded in the journal as it
-/// ends.
+/// Takes each try from the journal or else from `before`, makes and records the others, and writes the report.
+/// `answers` answers these; None starts programs. `report` is `Err` where the journal is refused, the backfill stops
+/// early, `out` fails, or memory runs out.
 pub(crate) fn record_backfill<RT, K, D, W>(
     crew: &Crew<'_, RT>,
     backfill: &Backfill<'_, K>,

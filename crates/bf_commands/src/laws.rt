@@ -20,14 +20,14 @@ ghost use Rattle.bf_commands.specs.Reported.{IsReportBy};
 
 use bf_try::TaskRunner;
 
-/// A graph file, a zone file and a range have at most one listing.
+/// Proves that a graph file, a zone file and a range have at most one list of data intervals.
 pub fn listings_are_unique()
     ensures { (graph : List ℕ) (file : Option (List ℕ)) (range : RunRange)
         (xs ys : List Interval)
         → HasListing graph file range (Ok xs) → HasListing graph file range (Ok ys) → xs ≡ ys }
 {}
 
-/// A plan, a table and data intervals have at most one report, whatever the order in which the tries ran.
+/// Proves that a plan, a table and data intervals have at most one report, in whatever order the tries ran.
 pub fn reports_are_unique()
     ensures { (dag : Dag) → IsSound dag
         → (table : List TableEntry) (intervals : List Interval) (one two : List ℕ)
@@ -36,8 +36,8 @@ pub fn reports_are_unique()
         → (one ≡ two) × (success ≡ other) }
 {}
 
-/// The bytes of a graph file, of a zone file and of a table, and a range, have at most one report. So what `dry`
-/// prints rests on them alone, and not on how many workers there are.
+/// Proves that the bytes of a graph file, a zone file and a table, and a range, have at most one report. So what `dry`
+/// prints depends on them alone, and not on the number of workers.
 pub fn dry_reports_are_unique()
     ensures { (graph : List ℕ) (file : Option (List ℕ)) (table : List ℕ) (range : RunRange)
         (one two : List ℕ) (success other : Bool)
@@ -46,8 +46,8 @@ pub fn dry_reports_are_unique()
         → (one ≡ two) × (success ≡ other) }
 {}
 
-/// The bytes of a graph file, of a zone file and of a table, and a moment, have at most one report. So what `single`
-/// prints rests on them alone.
+/// Proves that the bytes of a graph file, a zone file and a table, and a moment, have at most one report. So what
+/// `single` prints depends on them alone.
 pub fn single_reports_are_unique()
     ensures { (graph : List ℕ) (file : Option (List ℕ)) (table : List ℕ) (at : Timestamp)
         (one two : List ℕ) (success other : Bool)
@@ -55,10 +55,9 @@ pub fn single_reports_are_unique()
         → (one ≡ two) × (success ≡ other) }
 {}
 
-/// A backfill that goes on from what crashes left of its journal writes a report that one from nothing may write;
-/// also where failed tries are made again (`retry`) and where a report's tries are kept (`before`), if the runner
-/// could have answered these. That holds after any number of crashes at any byte: what a command leaves is again such
-/// a journal (`KeepsJournal`), and so is each beginning of it (`what_crashes_leave_may_be_cut`).
+/// Proves that a backfill which goes on from what crashes left of its journal writes a report that one without a crash
+/// may write: also where failed tries are made again (`retry`), and where a report's tries are kept (`before`) that the
+/// runner could have given. A command leaves such a journal again, by `KeepsJournal`.
 pub fn crashes_change_no_report<R: TaskRunner>(runner: &R)
     ensures { (dag : Dag) (intervals : List Interval) → IsNamed dag → AreOfRuns intervals
         → (cleared : Heading)

@@ -10,7 +10,7 @@ use bf_process::{LogFaults, ProcessRunner, Starter};
 use bf_progress::{Screen, tell_line};
 use std::alloc::Global;
 
-/// Tells lines on a screen.
+/// Shows on the screen each line that it is told.
 #[derive(Drop)]
 pub(crate) struct ScreenTeller<'m, RT> {
     rt: &'m RT,
@@ -26,15 +26,15 @@ impl<'m, RT: Screen> Teller for ScreenTeller<'m, RT> {
     }
 }
 
-/// Runs tries as programs, and tells those that fail, where that is asked for.
+/// Makes tries by starting programs, and tells those that fail where that is asked for.
 pub(crate) type Programs<'a, RT> = Telling<
     'a,
     ProcessRunner<'a, 'a, 'a, 'a, RT>,
     ScreenTeller<'a, RT>,
 >;
 
-/// The runner that makes the tries of these runs by starting the programs of their tasks, and tells on the screen
-/// those that fail where the crew tells that.
+/// Makes the runner that starts the programs of these runs' tasks, and tells failed tries on the screen where the crew
+/// does.
 #[tactic(auto, using(crate::proofs::Shown::anything))]
 pub(crate) fn programs_of<'a, RT: Starter + Screen>(
     crew: &Crew<'a, RT>,
@@ -60,7 +60,7 @@ pub(crate) fn programs_of<'a, RT: Starter + Screen>(
     Telling::new(crew.alloc, plan, runs, crew.launching.logs, runner, teller)
 }
 
-/// Tells on the screen that some logs couldn't be kept; nothing where all were.
+/// Tells on the screen where some logs couldn't be kept; does nothing where all were.
 pub(crate) fn tell_of_logs<RT: Screen>(rt: &RT, faults: &LogFaults) {
     if faults.has_incomplete_log() {
         rt.show("logs: not all could be kept\n");

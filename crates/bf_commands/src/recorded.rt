@@ -26,15 +26,15 @@ use std::sync::Wait;
 use std::thread::Threads;
 use std::time::{Clock, Duration};
 
-/// Where tries are recorded, and behind how many failed ones no further try is to begin.
+/// Where tries are recorded, and after how many failed ones no further try begins; None for any number.
 #[derive(Drop)]
 pub(crate) struct Record<D: Durable + Drop> {
     pub(crate) device: D,
     pub(crate) most_failed: Option<u32>,
 }
 
-/// The end of a backfill whose tries were recorded, or why there is none; the device; and why no further try was
-/// begun, if that was so.
+/// How a backfill with a journal ended: its end, or why it stopped before; the journal's device; and why no further try
+/// was begun, None where none was held back.
 #[derive(Drop)]
 pub(crate) struct RecordedEnd<'p, D: Durable + Drop> {
     pub(crate) ended: Result<Ended<'p>, CommandFault>,
@@ -42,8 +42,8 @@ pub(crate) struct RecordedEnd<'p, D: Durable + Drop> {
     pub(crate) stop: Option<Stop>,
 }
 
-/// A runner that makes tries by `runner` and records them, timing its syncs from now, from zero where the clock
-/// doesn't answer. The type `J` says what may be recorded.
+/// Makes a runner that makes tries by `runner` and records how they end. Its syncs are timed from now, or from zero
+/// where the clock doesn't answer. The type `J` says which records are allowed.
 fn recording_of<'a, J, RT, R, D>(
     rt: &'a RT,
     alloc: Global,
@@ -71,9 +71,10 @@ where
 }
 
 impl<'m, RT: Screen + Threads + Wait + Clock + Sync> Crew<'m, RT> {
-    /// Runs a backfill to its end by the workers, and records each try that isn't kept as it ends. The type `J` says
-    /// what may be recorded. `log_faults` is None where no programs are started.
-    fn resume_branded<'p, J, K, R, D, C>(
+    /// Runs a backfill to its end by the workers, and records each new try as it ends. `J` says which records are
+    /// allowed; `log_faults` is None where no programs are started. `ended` is `Err` where tries are left when a record
+    /// fails or too many failed, a thread can't be started, a try is given up, or memory runs out.
+    fn resume_recorded_as<'p, J, K, R, D, C>(
         &self,
         plan: &'p Plan,
         runs: &Runs,
@@ -137,9 +138,9 @@ impl<'m, RT: Screen + Threads + Wait + Clock + Sync> Crew<'m, RT> {
         }
     }
 
-    /// Runs a backfill to its end by the workers, and records each try that isn't kept as it ends. Once a record
-    /// can't be written or too many tries failed, no further one begins, and those that run are waited for.
-    /// `log_faults` is None where no programs are started.
+    /// Runs a backfill to its end by the workers, and records each new try as it ends. Once a record fails or too many
+    /// tries failed, none begins any more: `ended` is `Err` if one is left; also where a thread can't be started, a try
+    /// is given up, or memory runs out. `log_faults` is None where no programs are started.
     pub(crate) fn resume_recorded<'p, K, R, D, C>(
         &self,
         plan: &'p Plan,
@@ -166,6 +167,6 @@ impl<'m, RT: Screen + Threads + Wait + Clock + Sync> Crew<'m, RT> {
             plan.entry.now.dag runs.now)
             (D.written record.device) (D.written result.device) (is_write_failed result.stop) }
     {
-        self.resume_branded::<Brand, K, R, D, C>(plan, runs, keeping, record, clock, log_faults)
+        self.resume_recorded_as::<Brand, K, R, D, C>(plan, runs, keeping, record, clock, log_faults)
     }
 }

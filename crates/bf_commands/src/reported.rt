@@ -15,21 +15,22 @@ use bf_report::{RunReport, report_of, write_report};
 use bf_xcom::RunState;
 use std::alloc::Global;
 
-/// Whether a run is a success in its report.
+/// Whether a run succeeded.
 fn has_succeeded(run: &RunReport) -> bool
     ensures { result ≡ is_success_in run.now.state }
 {
     matches!(run.state, RunState::Success)
 }
 
-/// Whether each of these runs is a success.
+/// Whether each of these runs succeeded; true for none.
 fn all_succeeded(runs: &[RunReport]) -> bool
     ensures { result ≡ list_all (λ run. is_success_in run.state) runs.now }
 {
     runs.iter().all(|run| has_succeeded(run))
 }
 
-/// Writes the report of a backfill over these runs that has ended; true where every run is a success.
+/// Writes the report of a backfill that has ended; true where every run succeeded. `Err` where `out` fails, or at want
+/// of memory.
 pub(crate) fn write_ended<W: Write>(
     alloc: Global,
     runs: &Runs,

@@ -24,9 +24,9 @@ use std::sync::Wait;
 use std::thread::Threads;
 use std::time::Clock;
 
-/// Runs a graph once for each data interval that starts in the range, its ends included, by its tasks' programs, and
-/// writes the report; true where every run is a success. The graph's faults go before the range's; no program is
-/// started before both are known to have none.
+/// Runs a graph once for each data interval that starts in the range, its ends included, by starting its tasks'
+/// programs, and writes the report; true where every run succeeded. `Err`, before a program starts, where the graph or
+/// then the range is refused; and where the backfill stops early, `out` fails, or memory runs out.
 pub fn run_programs<RT: Starter + Screen + Threads + Wait + Clock + Sync, W: Write>(
     crew: &Crew<'_, RT>,
     graph: &[u8],
@@ -54,8 +54,9 @@ pub fn run_programs<RT: Starter + Screen + Threads + Wait + Clock + Sync, W: Wri
     written
 }
 
-/// Goes on from a journal with the programs of the tasks, records each other try in it as it ends, and writes the
-/// report.
+/// Takes tries from the journal, makes the others by starting programs, records each of these as it ends, and writes
+/// the report. `report` is `Err` where the journal is refused, the backfill stops early, `out` fails, or memory runs
+/// out.
 pub fn record_programs<RT, D, W>(
     crew: &Crew<'_, RT>,
     dated: &DatedPlan,

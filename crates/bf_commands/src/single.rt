@@ -24,8 +24,8 @@ use std::sync::Wait;
 use std::thread::Threads;
 use std::time::Clock;
 
-/// Runs a plan once, at the moment `at` of whole seconds, answering its tries from a table, and writes the report;
-/// true where the run is a success. The table's faults go before the moment's.
+/// Runs a plan once, at the moment `at` of whole seconds, with a table's answers, and writes the report; true where the
+/// run succeeded. `Err` where the table or then the moment is refused, `out` fails, or memory runs out.
 fn write_single<RT: Starter + Screen + Threads + Wait + Clock + Sync, W: Write>(
     rt: &RT,
     alloc: Global,
@@ -52,8 +52,8 @@ fn write_single<RT: Starter + Screen + Threads + Wait + Clock + Sync, W: Write>(
     write_backfill(&crew, plan, &runs, &NothingKept, Some(table), out)
 }
 
-/// Runs a graph once, at the moment `at` of whole seconds, answering its tries from a table, and writes the report;
-/// true where the run is a success. The graph's faults go before the table's, and these before the moment's.
+/// Runs a graph once, at the moment `at` of whole seconds, with a table's answers, and writes the report; true where
+/// the run succeeded. `Err` where the graph, the table or then the moment is refused, `out` fails, or memory runs out.
 pub fn run_single<RT: Starter + Screen + Threads + Wait + Clock + Sync, W: Write>(
     rt: &RT,
     alloc: Global,

@@ -15,8 +15,8 @@ use bf_plan::Plan;
 use bf_value::{JobName, Text};
 use std::alloc::Global;
 
-/// The fault of a backfill that stopped in the calling thread, over a table: memory is wanting. No try is given up
-/// over a table, and no thread started.
+/// Gives the command's fault where a backfill over a table stopped in the calling thread: want of memory, since no
+/// thread is started and a table gives up no try.
 pub(crate) fn stop_fault_alone(fault: &BackfillFault) -> CommandFault
     requires { MayFault (λ name given. ⊥) fault.now }
     ensures { result ≡ CommandFault.OutOfMemory }
@@ -27,8 +27,8 @@ pub(crate) fn stop_fault_alone(fault: &BackfillFault) -> CommandFault
     }
 }
 
-/// The fault of a backfill of workers that stopped over a table: memory is wanting or a thread can't be started. No
-/// try is given up over a table.
+/// Gives the command's fault where a backfill over a table stopped in its workers: want of memory, or a thread that
+/// can't be started, since a table gives up no try.
 pub(crate) fn stop_fault_over_table(fault: &BackfillFault) -> CommandFault
     requires { MayFail (λ name given. ⊥) fault.now }
     ensures wanting { IsWantingWorkers false result }
@@ -41,7 +41,8 @@ pub(crate) fn stop_fault_over_table(fault: &BackfillFault) -> CommandFault
     }
 }
 
-/// The backfill that stopped, the folder of its logs, where they are kept, and whether one of them couldn't be made.
+/// A backfill that stopped: its plan and runs, the folder of its logs, None where none are kept, and whether a log
+/// couldn't be made.
 #[derive(Drop)]
 pub(crate) struct StoppedBackfill<'a> {
     pub(crate) alloc: Global,
@@ -52,8 +53,8 @@ pub(crate) struct StoppedBackfill<'a> {
 }
 
 impl<'a> StoppedBackfill<'a> {
-    /// The fault of a try whose logs can't be made, with the path of the first. None where there is no such task or
-    /// run, or no folder of logs.
+    /// Gives the fault that a try's log can't be made, with the path of its `.out` file, or want of memory. None where
+    /// no logs are kept, or the plan has no such task or run.
     fn unlogged_fault(&self, name: JobName) -> Option<CommandFault>
         ensures told { IfSome result (IsGivenUp (option_map (λ l. l.now) self.now.logs)
             self.now.plan.now.dag self.now.runs.now name) }
@@ -69,7 +70,8 @@ impl<'a> StoppedBackfill<'a> {
         }
     }
 
-    /// The fault of a try whose program can't be waited for, with its task's id, map index and number.
+    /// Gives the fault that a try's program can't be waited for, with its task's id, map index and number; or want of
+    /// memory.
     fn lost_fault(&self, name: JobName) -> CommandFault
         ensures told { IsGivenUp (option_map (λ l. l.now) self.now.logs) self.now.plan.now.dag
             self.now.runs.now name result }
@@ -85,8 +87,8 @@ impl<'a> StoppedBackfill<'a> {
         }
     }
 
-    /// The fault of a try that its runner gave up: its logs can't be made where some log couldn't, else its program
-    /// can't be waited for.
+    /// Gives the fault of a try that its runner gave up: that its log can't be made, where some log couldn't be and
+    /// these are kept, else that its program can't be waited for; or want of memory.
     fn given_up_fault(&self, name: JobName) -> CommandFault
         ensures told { IsGivenUp (option_map (λ l. l.now) self.now.logs) self.now.plan.now.dag
             self.now.runs.now name result }
@@ -102,8 +104,8 @@ impl<'a> StoppedBackfill<'a> {
     }
 }
 
-/// The fault of a backfill with the programs of the tasks that stopped: memory is wanting, a thread can't be started,
-/// or a try was given up.
+/// Gives the command's fault where a backfill by programs stopped: a thread can't be started, a log can't be made, a
+/// program can't be waited for, or memory ran out.
 pub(crate) fn stop_fault_by_programs(
     stopping: &StoppedBackfill<'_>,
     fault: &BackfillFault,
@@ -119,8 +121,8 @@ pub(crate) fn stop_fault_by_programs(
     }
 }
 
-/// Why a try was given up whose end was to be recorded: `stop` says why no further one begins, or the runner gave it
-/// up where it is None. `most_failed` is how many tries may fail, None for any number.
+/// Gives the command's fault where a recorded backfill stopped at a try: by `stop`, that a record failed, memory ran
+/// out, or `most_failed` tries failed; without it, that the runner gave the try up.
 fn stop_fault_at_try(
     stopping: &StoppedBackfill<'_>,
     name: JobName,
@@ -141,8 +143,8 @@ fn stop_fault_at_try(
     }
 }
 
-/// The fault of a backfill that stopped and whose tries were recorded. `stop` says why no further try begins, None
-/// where none should have; `most_failed` is how many tries may fail, None for any number.
+/// Gives the command's fault where a recorded backfill stopped. `stop` says why no further try began, None where
+/// nothing held one back; `most_failed` is how many tries may fail, None for any number.
 pub(crate) fn stop_fault_of_recording(
     stopping: &StoppedBackfill<'_>,
     fault: &BackfillFault,

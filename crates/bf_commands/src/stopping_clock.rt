@@ -5,9 +5,9 @@ use bf_lane::TimeSource;
 use std::sync::Wait;
 use std::thread::Parker;
 
-/// Says whether further tries are begun.
+/// Says whether further tries may begin.
 pub(crate) trait Stops {
-    /// Whether no further try is to begin.
+    /// Whether no further try may begin.
     fn has_stopped(&self) -> bool;
 }
 
@@ -18,14 +18,14 @@ where
     R: DetailedRunner,
     D: Durable + Drop,
 {
-    /// Whether the recorder has a reason why no further try is begun.
+    /// Whether the recorder has a reason to begin no further try.
     fn has_stopped(&self) -> bool {
         self.stop_reason().is_some()
     }
 }
 
-/// Tells a clock's moments, and once no further try is begun a moment behind all others: a try that waits for its
-/// moment then is given up at once, and nobody waits hours for it.
+/// Tells the inner clock's moments, and the last moment there is once no further try may begin. So a try that waits for
+/// its retry delay is due, and is given up, at once.
 #[derive(Drop)]
 pub(crate) struct StoppingClock<'a, C: Drop, S> {
     pub(crate) clock: C,
@@ -36,8 +36,7 @@ pub(crate) struct StoppingClock<'a, C: Drop, S> {
 impl<'a, C: TimeSource + Drop, S: Stops> TimeSource for StoppingClock<'a, C, S> {
     ghost last = { λ clock. clock.told };
 
-    /// The present moment of the inner clock; the last moment there is once no further try is to begin, so that no
-    /// delay is waited for.
+    /// The inner clock's present moment; `i64::MAX` once no further try may begin, so that no delay is waited for.
     fn now(&mut self) -> i64 {
         let now = self.clock.now();
         self.told = if self.stops.has_stopped() {
@@ -48,7 +47,7 @@ impl<'a, C: TimeSource + Drop, S: Stops> TimeSource for StoppingClock<'a, C, S> 
         self.told
     }
 
-    /// Waits as the inner clock does, at most until a moment.
+    /// Pauses as the inner clock does, at most until the moment `until`.
     fn pause<W: Wait>(&mut self, rt: &W, sleep: &Parker, until: i64) {
         self.clock.pause(rt, sleep, until);
     }

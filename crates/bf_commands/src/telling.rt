@@ -4,21 +4,21 @@ use bf_journal::Found;
 use bf_progress::Screen;
 use std::alloc::{AllocError, Global};
 
-/// How many whole lines are behind the first, the head; 0 where there is no line. Contracts say nothing of it.
+/// Counts the whole lines of a journal after its head; 0 where it has no line. No contract rests on it.
 fn lines_behind_head(held: &[u8]) -> usize {
     let lines = held.iter().filter(|byte| **byte == b'\n').count();
     lines.saturating_sub(1)
 }
 
-/// Shows a line on the screen; nothing where it is an error, for want of memory.
+/// Shows a line on the screen; shows nothing where memory ran out for it.
 fn show_line<RT: Screen>(rt: &RT, line: Result<String, AllocError>) {
     if let Ok(line) = line {
         rt.show(line.as_str());
     }
 }
 
-/// Tells on the screen how many bytes of a cut record are dropped, and behind how many tries the journal goes on;
-/// nothing where it was empty. `held` are the bytes of the journal.
+/// Tells on the screen how many bytes of an unfinished record are dropped, and after how many tries the journal goes
+/// on; nothing where it was empty. `held` are the journal's bytes.
 pub(crate) fn tell_found<RT: Screen>(rt: &RT, alloc: Global, held: &[u8], found: &Found) {
     let torn = found.torn;
     if torn > 0 {

@@ -14,7 +14,8 @@ use std::marker::Model;
 /// The last moment of the clock, in seconds since 1970: the end of the year 9999.
 pub const LAST_MOMENT: i64 = 253_402_300_799;
 
-/// The moments for which tries wait, by the tries' names. Contracts see it as a finite map.
+/// For each try that waits for a moment, by its name: that moment, in seconds since 1970. Contracts see it as a finite
+/// map.
 #[derive(Drop)]
 pub struct Moments {
     entries: BTreeMap<JobName, i64>,
@@ -34,7 +35,7 @@ impl Model for Moments {
 }
 
 impl Moments {
-    /// No moments.
+    /// An empty map: no try waits for a moment.
     pub(crate) fn new(alloc: Global) -> Self
         ensures { result ≡ FinMap.empty }
     {
@@ -43,14 +44,15 @@ impl Moments {
         }
     }
 
-    /// The moment for which a try waits, in seconds since 1970, if it waits for one.
+    /// The moment for which a try waits, in seconds since 1970; None where it waits for none.
     pub(crate) fn get(&self, name: JobName) -> Option<&i64>
         ensures { option_copied result ≡ FinMap.get self.now name }
     {
         self.entries.get(&name)
     }
 
-    /// Notes the moment, in seconds since 1970, for which a try waits. Where memory is wanting, nothing changes.
+    /// Notes that a try waits for `moment`, in seconds since 1970, in place of any moment noted for it before. `Err`
+    /// changes nothing.
     pub(crate) fn note(&mut self, name: JobName, moment: i64) -> Result<(), OutOfMemory>
         ensures ok { OnOk result (self.new ≡ FinMap.insert self.old name moment) }
         ensures same { OnErr result (self.new ≡ self.old) }
@@ -59,7 +61,7 @@ impl Moments {
         Ok(())
     }
 
-    /// Forgets the moment for which a try waits, if it waits for one.
+    /// Forgets the moment for which a try waits; does nothing where it waits for none.
     pub(crate) fn forget(&mut self, name: JobName)
         ensures { self.new ≡ FinMap.remove self.old name }
     {
@@ -67,7 +69,7 @@ impl Moments {
     }
 }
 
-/// What a clock shows, in seconds since 1970, and the moments for which tries wait.
+/// The clock of a backfill: the time that it shows, in seconds since 1970, and the moments for which tries wait.
 #[derive(Drop)]
 pub struct Clock {
     pub time: i64,
@@ -75,14 +77,15 @@ pub struct Clock {
 }
 
 impl Clock {
-    /// Whether the clock may come to a moment: one later than it shows, and at most `LAST_MOMENT`.
+    /// Whether the clock may be moved to `moment`, in seconds since 1970: it is later than the clock's time, and at
+    /// most `LAST_MOMENT`.
     pub(crate) fn may_come_to(&self, moment: i64) -> bool
         ensures { IsTrue result ↔ IsTimely self.now (Event.Tick moment) }
     {
         self.time < moment && moment <= LAST_MOMENT
     }
 
-    /// Whether a try may begin as far as the clock goes: the moment for which it waits has come, or it has none.
+    /// Whether the clock lets a try begin: the moment for which it waits has come, or it waits for none.
     pub(crate) fn lets_begin(&self, name: JobName) -> bool
         ensures { IsTrue result ↔ IsTimely self.now (Event.Begin name) }
     {
@@ -92,7 +95,7 @@ impl Clock {
         }
     }
 
-    /// The moment for which a try waits, where that is later than what the clock shows; None where it has come, or
+    /// The moment, in seconds since 1970, for which a try waits, where it is still to come; None where it has come, or
     /// the try waits for none.
     pub(crate) fn later_moment_of(&self, name: JobName) -> Option<i64>
         ensures moment { IfSome result (λ m. FinMap.get self.now.moments name ≡ Some m) }
@@ -121,8 +124,8 @@ impl Clock {
         self.time < moment
     }
 
-    /// Notes until when `retry`, the next try of one that ends, waits, if it is made and that is later than the clock
-    /// shows. Where memory is wanting, nothing changes.
+    /// Notes until when the next try `retry` waits: `retry.delay` seconds after now, at most `LAST_MOMENT`. Notes
+    /// nothing where that try isn't made, or need not wait. `Err` changes nothing.
     fn delay_retry(&mut self, retry: Retry) -> Result<(), OutOfMemory>
         requires begun { pos 0 ≤ℤ self.old.time }
         requires within { self.old.time ≤ℤ last_moment }
@@ -139,7 +142,7 @@ impl Clock {
     }
 }
 
-/// The next try of a try that ends: its name, whether it is made, and how many seconds it waits.
+/// The try that would follow one that ends: its name, whether it is made at all, and how many seconds it waits first.
 #[derive(Clone, Copy)]
 pub(crate) struct Retry {
     pub(crate) next: JobName,
@@ -147,8 +150,8 @@ pub(crate) struct Retry {
     pub(crate) delay: u32,
 }
 
-/// Notes the try `name`, which has ended, in the ledger, and in the clock until when its next one, `retry`, waits, if
-/// that is made. Where memory is wanting, nothing changes.
+/// Notes the end of the try `name`: its `entry` in the ledger, and in the clock until when its next try `retry` waits,
+/// if that is made. `Err` changes neither.
 pub(crate) fn note_end(
     clock: &mut Clock,
     ledger: &mut Ledger,

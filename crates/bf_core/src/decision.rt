@@ -30,7 +30,7 @@ pub enum Decision {
     Instances(Sequence<Given>),
 }
 
-/// Instances that wait for their first try, one for each given.
+/// A new instance for each of `givens`, in their order. Each waits for its first try.
 fn fresh_instances(
     alloc: Global,
     givens: Sequence<Given>,
@@ -49,15 +49,15 @@ fn fresh_instances(
 }
 
 impl Decision {
-    /// Whether nothing can be decided of the task yet.
+    /// Whether this is `Wait`: nothing can be decided of the task yet.
     pub(crate) fn waits(&self) -> bool
         ensures { IsTrue result ↔ (self.now ≡ Decision.Wait) }
     {
         matches!(self, Decision::Wait)
     }
 
-    /// The cell of a task by this decision, undecided for `Wait`. Its instances, if it gets some, wait for their
-    /// first try.
+    /// The cell that a task gets by this decision: `Undecided` for `Wait`. Its instances, if any, wait for their first
+    /// try.
     pub(crate) fn into_cell(self, alloc: Global) -> Result<Cell, OutOfMemory>
         ensures { IfOk result (λ c. c ≡ cell_of self) }
     {
@@ -106,7 +106,8 @@ pub(crate) fn is_undecided(dag: &Dag, state: &State, run: u32, task: u32) -> boo
     }
 }
 
-/// The verdict on a task in a run now, by its upstreams; where that is to run, by its past (`depends_on_past`).
+/// The verdict on a task in a run now: what its upstreams say, or where they say to run, what its past says (Airflow's
+/// `depends_on_past`).
 #[tactic(auto, unfolding(crate::specs::Deciding::task_verdict_of))]
 pub(crate) fn task_verdict(plan: &Plan, state: &State, run: u32, task: u32) -> Verdict
     requires task { task < length plan.now.dag.tasks }
@@ -127,7 +128,7 @@ pub(crate) fn goes_on_to_expansion(dag: &Dag, task: u32, verdict: Verdict) -> bo
     dag.task(task).expand.is_some() && verdict == Verdict::Run
 }
 
-/// Whether a task stays undecided by this verdict: it is to wait, or to run while its expansion's source isn't
+/// Whether `verdict` leaves a task undecided: it is to wait, or to run while the source of the task's expansion isn't
 /// settled.
 pub(crate) fn decides_to_wait(
     dag: &Dag,
@@ -150,9 +151,9 @@ pub(crate) fn decides_to_wait(
     }
 }
 
-/// What is decided of a task by `verdict`, which its upstreams and its past give. Where that is to run, it gets its
-/// instances; an expanded one waits while its source isn't settled, and without items it is upstream_failed or
-/// skipped.
+/// What `verdict`, given by a task's upstreams and its past, decides of the task. Where it is to run, the task gets its
+/// instances; an expanded one waits while its source isn't settled, and is upstream_failed where that gives no list, or
+/// skipped where the list is empty.
 pub(crate) fn decision_after_verdict(
     alloc: Global,
     dag: &Dag,

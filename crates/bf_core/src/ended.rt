@@ -18,9 +18,10 @@ use bf_value::Sequence;
 use bf_xcom::RunState;
 use std::marker::Model;
 
-/// A backfill of a plan whose runs are all closed: its cells and the ledger of its tries, the state of each run in order of
-/// date, and the events that led to it. Its cells and the states of its runs are the recursion's over its ledger, which holds
-/// exactly the tries that the recursion asks for; its journal is legal, and no pool ever had more slots occupied than it has.
+/// A backfill of a plan whose runs are all closed: its cells and the ledger of its tries, the state of each run in
+/// order of date, and the events that led to it. Its cells and the states of its runs are the recursion's over its
+/// ledger, which holds exactly the tries that the recursion asks for. Its journal is legal, and no pool ever had more
+/// slots occupied than its size.
 #[derive(Drop)]
 pub struct Ended<'p> {
     pub(crate) plan: &'p Plan,
@@ -103,7 +104,7 @@ impl<'p> Ended<'p> {
     }
 }
 
-/// Whether no task has this one as an upstream.
+/// Whether a task is a leaf: no task has it as an upstream.
 #[tactic(auto, using(crate::proofs::Leaves::no_downstreams, crate::proofs::Leaves::has_edges))]
 fn is_leaf(plan: &Plan, task: u32) -> bool
     requires { task < length plan.now.dag.tasks }
@@ -129,8 +130,8 @@ fn any_failed(instances: &[Instance]) -> bool
     instances.iter().any(|instance| has_failed(instance))
 }
 
-/// Whether a task with this cell fails its run, taken as closed: it is blocked or not settled, or it is a leaf and
-/// failed or is upstream_failed.
+/// Whether a task with this cell makes its run fail once that is closed: it is blocked or not settled, or it is a leaf
+/// that failed or is upstream_failed.
 #[tactic(auto, using(crate::proofs::Closing::ran_fails))]
 fn fails_its_run(plan: &Plan, task: u32, cell: &Cell) -> bool
     requires { task < length plan.now.dag.tasks }
@@ -145,7 +146,8 @@ fn fails_its_run(plan: &Plan, task: u32, cell: &Cell) -> bool
     }
 }
 
-/// Whether the instances of a task make its run fail: one isn't finished, or one failed and the task is a leaf.
+/// Whether the instances of a task make its run fail once that is closed: one isn't finished, or one failed and the
+/// task is a leaf.
 fn instances_fail_run(plan: &Plan, task: u32, instances: &[Instance]) -> bool
     requires { task < length plan.now.dag.tasks }
     ensures { result ≡ instances_fail (is_leaf_in plan.now.dag task) instances.now }
@@ -153,8 +155,8 @@ fn instances_fail_run(plan: &Plan, task: u32, instances: &[Instance]) -> bool
     !are_finished(instances) || (any_failed(instances) && is_leaf(plan, task))
 }
 
-/// Whether a run, taken as closed, is failed: a task of it, by its cell in `cells`, is blocked or not settled, or is
-/// a leaf that failed or is upstream_failed.
+/// Whether a run with these cells, one for each task in file order, fails once it is closed: a task is blocked or not
+/// settled, or is a leaf that failed or is upstream_failed.
 fn run_fails(plan: &Plan, cells: &[Cell]) -> bool
     requires few { length plan.now.dag.tasks ≤ 2_000 }
     requires one_each { length cells.now ≡ length plan.now.dag.tasks }
@@ -169,7 +171,7 @@ fn run_fails(plan: &Plan, cells: &[Cell]) -> bool
     false
 }
 
-/// The state of a run, taken as closed, by the cell of each task in file order: failed where `run_fails`, else
+/// The state of a run once it is closed, by the cell of each task in file order: failed where `run_fails`, else
 /// success.
 fn run_state(plan: &Plan, cells: &[Cell]) -> RunState
     requires few { length plan.now.dag.tasks ≤ 2_000 }
@@ -191,7 +193,7 @@ fn are_closed(runs: &[Run]) -> bool
     runs.iter().all(|run| run.phase.is_closed())
 }
 
-/// Writes the state of each run, taken as closed, into its place of `states`, which has one place for each run.
+/// Writes the state that each run has once it is closed to its place in `states`, which has one place for each run.
 fn write_states(plan: &Plan, runs: &[Run], states: &mut Vec<RunState>)
     requires few { length plan.now.dag.tasks ≤ 2_000 }
     requires rows { (k : ℕ) → k < length runs.now → length (row_of runs.now k).cells
@@ -212,7 +214,7 @@ impl<'a> Core<'a> {
         are_closed(self.state.runs.as_slice())
     }
 
-    /// What the backfill came to, where it has ended; else the core is handed back.
+    /// Answers what the backfill came to. `Err` hands the core back as it was, where a run isn't closed.
     pub fn into_ended(self) -> Result<Ended<'a>, Core<'a>>
         ensures ok { IfOk result (λ ended. ended ≡ ending_of self.entry ended.run_states) }
         ensures closed { OnOk result (HasEnded self.entry.state) }

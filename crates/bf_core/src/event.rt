@@ -14,7 +14,7 @@ pub enum Event {
     Open,
     /// A task is decided, without going on to its expansion.
     Settle { run: u32, task: u32 },
-    /// An expanded task is decided, for which rule and past say to go on: it gets its instances.
+    /// An expanded task that its rule and its past let run is decided, by the items of its source.
     Expand { run: u32, task: u32 },
     /// A try begins.
     Begin(JobName),
@@ -27,7 +27,7 @@ pub enum Event {
 }
 
 impl Event {
-    /// The event that decides a task in a run: by its expansion where `expands`, and else without one.
+    /// The event that decides a task in a run: `Expand` where its expansion decides it, else `Settle`.
     pub(crate) fn deciding(expands: bool, run: u32, task: u32) -> Event
         ensures { result ≡ deciding expands run task }
     {
@@ -60,16 +60,16 @@ impl Event {
     }
 }
 
-/// Why an event is refused. The first of these that holds is answered, but for memory.
+/// Why an event is refused: the first of these causes that holds, but want of memory may come before any other.
 #[derive(Clone, Copy, Debug, PartialEq, Eq, Error)]
 pub enum Illegal {
-    /// A run, a task, an instance or a try that isn't there.
+    /// The event names a run, a task, an instance or a try that isn't there.
     #[error("stranger")]
     Stranger,
-    /// Not enabled, for another cause than want of room.
+    /// The event may not come now, for another cause than want of room.
     #[error("not enabled")]
     NotEnabled,
-    /// The pool has no room.
+    /// The task's pool has too few slots free.
     #[error("no room")]
     NoRoom,
     #[error("out of memory")]
@@ -82,6 +82,7 @@ impl From<OutOfMemory> for Illegal {
 
     ghost from_gives = { λ _ e. e ≡ OutOfMemory };
 
+    /// Want of memory refuses an event by `OutOfMemory`.
     fn from(_e: OutOfMemory) -> Illegal {
         Illegal::OutOfMemory
     }
@@ -93,6 +94,7 @@ impl From<AllocError> for Illegal {
 
     ghost from_gives = { λ _ e. e ≡ OutOfMemory };
 
+    /// Want of memory refuses an event by `OutOfMemory`.
     fn from(_e: AllocError) -> Illegal {
         Illegal::OutOfMemory
     }

@@ -12,7 +12,7 @@ use crate::state::{Cell, Instance, State, are_finished};
 use bf_mapped::{Items, SourceValues, items};
 use bf_plan::{Dag, Task};
 use bf_value::{OutOfMemory, Sequence, Xval};
-use bf_xcom::{Given, Pulled};
+use bf_xcom::{Given, SharedValue};
 use std::alloc::Global;
 
 /// What each instance pushed, by map index; None for one that isn't finished or pushed nothing.
@@ -26,8 +26,8 @@ fn pushed_by_each(alloc: Global, instances: &[Instance]) -> Result<Vec<Option<Xv
     Ok(values)
 }
 
-/// What a source with these instances has for an expansion: what its only one pushed, or where `source` is expanded
-/// what each pushed. None while one hasn't finished.
+/// What `source` with these instances gives to an expansion: what its only one pushed, or where `source` is itself
+/// expanded, what each pushed. None while one hasn't finished.
 fn values_of_instances(
     alloc: Global,
     source: &Task,
@@ -47,8 +47,8 @@ fn values_of_instances(
 }
 
 impl Cell {
-    /// What the task `source` with this cell has for an expansion, `Absent` where it didn't run. None where the cell
-    /// isn't settled.
+    /// What the task `source` with this cell gives to an expansion: what its instances pushed, or `Absent` where it
+    /// didn't run. None where the cell isn't settled.
     #[tactic(auto, using(crate::proofs::Expanded::ran_source))]
     fn source_values(
         &self,
@@ -65,8 +65,8 @@ impl Cell {
         }
     }
 
-    /// The items that the task `source` with this cell gives, `Missing` where it has no list. None where the cell
-    /// isn't settled.
+    /// The items that the task `source` with this cell gives to an expansion; `Missing` where it has no list. None
+    /// where the cell isn't settled.
     fn items(&self, alloc: Global, source: &Task) -> Result<Option<Items>, OutOfMemory>
         ensures { IfOk result (λ found. found
             ≡ option_map (given_by source.now) (value_in self.now)) }
@@ -78,8 +78,8 @@ impl Cell {
     }
 }
 
-/// The items that the task `source` gives in a run, `Missing` where it has no list. None where it isn't settled, or
-/// isn't there.
+/// The items that the task `source` gives to an expansion in a run; `Missing` where it has no list. None where it isn't
+/// settled, or isn't there.
 fn items_from(
     alloc: Global,
     dag: &Dag,
@@ -98,8 +98,8 @@ fn items_from(
     }
 }
 
-/// The one instance of an unmapped task, which is given what was pulled and no item.
-fn single_instance(alloc: Global, pulled: Vec<Pulled>) -> Result<Decision, OutOfMemory>
+/// Decides that a task gets one instance, as an unmapped task does, which is given what was pulled and no item.
+fn single_instance(alloc: Global, pulled: Vec<SharedValue>) -> Result<Decision, OutOfMemory>
     ensures { IfOk result (λ d. d ≡ Decision.Instances
         (record { item = None; pulled = pulled.items } ∷ [])) }
 {
@@ -111,7 +111,7 @@ fn single_instance(alloc: Global, pulled: Vec<Pulled>) -> Result<Decision, OutOf
     Ok(Decision::Instances(Sequence::from_vec(givens)))
 }
 
-/// What an instance is given: this item, and the pulls of `alike`, which all instances of the task are given.
+/// What the instance of an expanded task is given: its `item`, and a copy of the pulls of `alike`.
 fn given_with(alloc: Global, item: Xval, alike: &Given) -> Result<Given, OutOfMemory>
     ensures { IfOk result (λ given. given
         ≡ record { item = Some item; pulled = alike.now.pulled }) }
@@ -121,11 +121,11 @@ fn given_with(alloc: Global, item: Xval, alike: &Given) -> Result<Given, OutOfMe
     Ok(given)
 }
 
-/// What each instance is given, by map index: its item, and `pulled`, which all of them are given alike.
+/// What each instance of an expanded task is given, by map index: its item, and `pulled`, the same for all.
 fn givens_of(
     alloc: Global,
     items: Sequence<Xval>,
-    pulled: Vec<Pulled>,
+    pulled: Vec<SharedValue>,
 ) -> Result<Sequence<Given>, OutOfMemory>
     ensures { IfOk result (λ givens. givens
         ≡ map (λ item. record { item = Some item; pulled = pulled.items }) items) }
@@ -146,7 +146,7 @@ fn givens_of(
 fn instances_of_items(
     alloc: Global,
     items: Items,
-    pulled: Vec<Pulled>,
+    pulled: Vec<SharedValue>,
 ) -> Result<Decision, OutOfMemory>
     ensures { IfOk result (λ d. d ≡ mapped pulled.items items) }
 {
@@ -161,9 +161,9 @@ fn instances_of_items(
     }
 }
 
-/// What is decided of a task that is to run: a single instance, or of an expanded one an instance for each item. That
-/// one waits while its source isn't settled, is upstream_failed where this gives no list, and skipped where the list
-/// is empty.
+/// What is decided of a task that is to run: one instance, or for an expanded task one for each item of its source. An
+/// expanded task waits while its source isn't settled, is upstream_failed where that gives no list, and skipped where
+/// the list is empty.
 pub(crate) fn decide_instances(
     alloc: Global,
     dag: &Dag,

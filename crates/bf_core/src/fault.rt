@@ -22,6 +22,7 @@ impl From<OutOfMemory> for BackfillFault {
 
     ghost from_gives = { λ _ e. e ≡ OutOfMemory };
 
+    /// Want of memory is the fault `OutOfMemory`.
     fn from(_e: OutOfMemory) -> BackfillFault {
         BackfillFault::OutOfMemory
     }

@@ -8,7 +8,7 @@ ghost use Rattle.bf_core.specs.Recursion.{decided, out, value_of, SolvesRecursio
 ghost use Rattle.bf_core.specs.Events.{WithinPools, IsLegal, replay, start, entry_in, HasEnded};
 ghost use Rattle.bf_core.specs.Agreement.{Holds, Agrees, IsOutcome};
 
-/// A law: every state that a legal list of events leads to agrees with every ledger that holds its entries.
+/// A law: every state to which a legal list of events leads agrees with each ledger that holds the state's entries.
 pub fn legal_lists_agree()
     ensures { (dag : Dag) → IsSound dag → (limits : Limits) (runs : ℕ) (events : List Event)
         → IsLegal dag limits (start dag runs) events →
@@ -17,8 +17,8 @@ pub fn legal_lists_agree()
         Agrees dag (replay dag (start dag runs) events) (FinMap.get ledger) }
 {}
 
-/// When every run is closed, the cells are the recursion's over the ledger, which holds just the tries that the
-/// recursion asks for.
+/// A law: when every run is closed, the cells are the recursion's over the ledger, and the ledger holds just the tries
+/// that the recursion asks for.
 pub fn ended_lists_are_outcomes()
     ensures { (dag : Dag) → IsSound dag → (limits : Limits) (runs : ℕ) (events : List Event)
         → IsLegal dag limits (start dag runs) events →
@@ -26,8 +26,8 @@ pub fn ended_lists_are_outcomes()
         → IsOutcome dag runs (replay dag (start dag runs) events) }
 {}
 
-/// Two ended backfills of one plan whose tries answer alike end in one state, whatever their limits and their order
-/// of events.
+/// A law: two ended backfills of one plan whose tries answer alike end in the same state, whatever their limits and the
+/// order of their events.
 pub fn alike_ledgers_end_alike()
     ensures { (dag : Dag) → IsSound dag → (one two : Limits) (runs : ℕ) (events others : List Event)
         →
@@ -39,22 +39,21 @@ pub fn alike_ledgers_end_alike()
         replay dag (start dag runs) events ≡ replay dag (start dag runs) others }
 {}
 
-/// A law: in every state that a legal list of events leads to, no pool has more slots occupied than it has.
+/// A law: in every state that a legal list of events leads to, no pool has more slots occupied than its size.
 pub fn legal_lists_keep_pools()
     ensures { (dag : Dag) (limits : Limits) (runs : ℕ) (events : List Event)
         → IsLegal dag limits (start dag runs) events →
         WithinPools limits (replay dag (start dag runs) events) }
 {}
 
-/// The value of a task in a run is that of what is decided of it there, over the values of the tasks that it looks at. The
-/// recursion counts down how far it still looks up in the graph; by this equation the count never runs out.
+/// A law: the value of a task in a run is that of what is decided of it over the values of the tasks that it looks at.
+/// The recursion counts down how far it may still look up in the graph; by this equation the count never runs out.
 pub fn the_recursion_unfolds()
     ensures { (dag : Dag) → IsSound dag → (ledger : Ledger) (run task : ℕ) →
         out dag ledger run task ≡ value_of dag ledger run task (decided dag ledger run task) }
 {}
 
-/// What is decided of a task in the first run is the same whatever is taken for its value in the run before, which there
-/// is not.
+/// A law: what is decided of a task in the first run doesn't depend on its value in a run before, as there is none.
 pub fn the_first_run_has_no_past()
     ensures { (dag : Dag) (seen : ℕ → Seen) (past other : Option TaskValue) (task : ℕ) →
         decision dag 0 seen past task ≡ decision dag 0 seen other task }

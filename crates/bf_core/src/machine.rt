@@ -81,7 +81,7 @@ impl<'a> Model for Core<'a> {
 }
 
 impl<'a> Core<'a> {
-    /// The core of a plan over these runs, of which nothing has happened yet.
+    /// A core of the plan over these runs, at its start: no run is open yet, and no event has come.
     pub fn new<R: RunCount>(
         alloc: Global,
         plan: &'a Plan,
@@ -115,9 +115,9 @@ impl<'a> Core<'a> {
         })
     }
 
-    /// Lets an event come, or refuses it and changes nothing: by `Stranger` where what it speaks of isn't there, else
-    /// by `NotEnabled` where it may not come for another cause than want of room, else by `NoRoom`. Want of memory may
-    /// stand in the place of any answer, and nothing else refuses an event that may come.
+    /// Lets an event come, or refuses it and changes nothing: `Stranger` where what it names isn't there, else
+    /// `NotEnabled` where it may not come now for another cause than want of room, else `NoRoom`. `OutOfMemory` may
+    /// stand in place of any answer, and alone refuses an event that may come.
     pub fn apply(&mut self, event: Event) -> Result<(), Illegal>
         ensures ok { OnOk result (HasCome self.old event self.new) }
         ensures err { IfErr result (IsRefusal self.old event) }
@@ -137,7 +137,7 @@ impl<'a> Core<'a> {
         }
     }
 
-    /// The run that may be opened, the next one; None where none is left, or as many are open as may be.
+    /// The run to open next, from 0; None where none is left, or as many are open as the plan allows.
     pub(crate) fn next_to_open(&self) -> Option<u32>
         ensures some { IfSome result (λ k. (k ≡ next_run self.now.state)
             × MayCome self.now Event.Open) }
@@ -150,7 +150,8 @@ impl<'a> Core<'a> {
         }
     }
 
-    /// Opens the next run; refused where none is left, or as many are open as may be.
+    /// Opens the next run. `NotEnabled` where none is left or as many are open as the plan allows, `OutOfMemory` at
+    /// want of memory; `Err` changes nothing.
     fn open(&mut self) -> Result<(), Illegal>
         ensures ok { OnOk result (HasCome self.old Event.Open self.new) }
         ensures err { IfErr result (IsRefusal self.old Event.Open) }
@@ -167,8 +168,9 @@ impl<'a> Core<'a> {
         Ok(())
     }
 
-    /// What is decided of a task now, by its expansion where `expands`, else without one. Refused where the task
-    /// can't be decided so now, or isn't there.
+    /// What is decided of a task now, by its expansion where `expands`, else without one. `Stranger` where the run or
+    /// the task isn't there, `NotEnabled` where the task can't be decided now or not in this way, `OutOfMemory` at want
+    /// of memory.
     fn decision_now(&self, run: u32, task: u32, expands: bool) -> Result<Decision, Illegal>
         ensures ok { IfOk result (λ d. MayCome self.now (deciding expands run task)
             × (d ≡ decision_in self.now.dag self.now.state run task)) }
@@ -187,8 +189,9 @@ impl<'a> Core<'a> {
         Ok(decision)
     }
 
-    /// Decides a task in a run, by its expansion where `expands`, else without one. Refused where the task can't be
-    /// decided so now, or isn't there.
+    /// Decides a task in a run, by its expansion where `expands`, else without one. `Stranger` where the run or the
+    /// task isn't there, `NotEnabled` where the task can't be decided now or not in this way, `OutOfMemory` at want of
+    /// memory; `Err` changes nothing.
     fn decide(&mut self, run: u32, task: u32, expands: bool) -> Result<(), Illegal>
         ensures ok { OnOk result (HasCome self.old (deciding expands run task) self.new) }
         ensures err { IfErr result (IsRefusal self.old (deciding expands run task)) }
@@ -203,7 +206,8 @@ impl<'a> Core<'a> {
         Ok(())
     }
 
-    /// The slots that a try takes once it begins; refused where it doesn't wait, or waits for a later moment.
+    /// The pool and slots that a waiting try takes once it begins. `Stranger` where there is no such try, `NotEnabled`
+    /// where it doesn't wait, or its moment is still to come.
     fn waiting_demand(&self, name: JobName) -> Result<Demand, Illegal>
         ensures ok { IfOk result (IsBeginning self.now name) }
         ensures err { IfErr result (IsRefusal self.now (Event.Begin name)) }
@@ -215,7 +219,9 @@ impl<'a> Core<'a> {
         Ok(self.plan.demand(name.task))
     }
 
-    /// Begins a try that waits: it takes its task's slots. Refused where it may not begin, or they have no room.
+    /// Begins a waiting try, which takes its task's slots. `Stranger` where there is no such try, `NotEnabled` where it
+    /// doesn't wait or its moment is still to come, `NoRoom` where its pool has too few slots free, `OutOfMemory` at
+    /// want of memory; `Err` changes nothing.
     fn begin(&mut self, name: JobName) -> Result<(), Illegal>
         ensures ok { OnOk result (HasCome self.old (Event.Begin name) self.new) }
         ensures err { IfErr result (IsRefusal self.old (Event.Begin name)) }
@@ -236,8 +242,8 @@ impl<'a> Core<'a> {
         }
     }
 
-    /// The try behind a running one that ends with `outcome`: its name, whether it is made, and after how many
-    /// seconds.
+    /// The try that would follow a running one which ends with `outcome`: its name, whether it is made, and how many
+    /// seconds it waits first.
     fn retry_of(&self, name: JobName, outcome: &Outcome) -> Retry
         requires { IsPresent self.now.dag self.now.state name Phase.Running }
         ensures { IsRetry self.now name outcome.now result }
@@ -250,8 +256,9 @@ impl<'a> Core<'a> {
         }
     }
 
-    /// What the end of a try takes: its ledger entry, the outcome that its instance keeps, the slots that are given
-    /// back and its next try. Refused where the try doesn't run, or could not end with this outcome.
+    /// What `end` needs for a try: its ledger entry, the outcome that its instance keeps, the slots to give back and
+    /// the next try. `Stranger` where there is no such try, `NotEnabled` where it doesn't run or can't end with this
+    /// outcome, `OutOfMemory` at want of memory.
     fn prepare_end(&self, name: JobName, outcome: &Outcome) -> Result<Ending, Illegal>
         ensures ok { IfOk result (IsEnding self.now name outcome.now) }
         ensures err { IfErr result (IsRefusal self.now (Event.End name outcome.now)) }
@@ -276,8 +283,9 @@ impl<'a> Core<'a> {
         })
     }
 
-    /// Ends a try: its slots are given back, and the ledger gets its entry. Refused where it doesn't run, or could
-    /// not end so.
+    /// Ends a running try: gives back its slots and notes its entry in the ledger. `Stranger` where there is no such
+    /// try, `NotEnabled` where it doesn't run or can't end with this outcome, `OutOfMemory` at want of memory; `Err`
+    /// changes nothing.
     fn end(&mut self, name: JobName, outcome: Outcome) -> Result<(), Illegal>
         ensures ok { OnOk result (HasCome self.old (Event.End name outcome) self.new) }
         ensures err { IfErr result (IsRefusal self.old (Event.End name outcome)) }
@@ -304,7 +312,8 @@ impl<'a> Core<'a> {
         Ok(())
     }
 
-    /// Closes a run; refused where it isn't open or has an unsettled task.
+    /// Closes a run. `Stranger` where it isn't there, `NotEnabled` where it isn't open or a task isn't settled,
+    /// `OutOfMemory` at want of memory; `Err` changes nothing.
     fn close(&mut self, run: u32) -> Result<(), Illegal>
         ensures ok { OnOk result (HasCome self.old (Event.Close run) self.new) }
         ensures err { IfErr result (IsRefusal self.old (Event.Close run)) }
@@ -318,7 +327,8 @@ impl<'a> Core<'a> {
         Ok(())
     }
 
-    /// Moves the clock to a moment, in seconds since 1970; refused where that isn't later, or is past `LAST_MOMENT`.
+    /// Moves the clock to `moment`, in seconds since 1970. `NotEnabled` where that isn't later than the clock's time or
+    /// is past `LAST_MOMENT`, `OutOfMemory` at want of memory; `Err` changes nothing.
     fn tick(&mut self, moment: i64) -> Result<(), Illegal>
         ensures ok { OnOk result (HasCome self.old (Event.Tick moment) self.new) }
         ensures err { IfErr result (IsRefusal self.old (Event.Tick moment)) }
@@ -334,7 +344,8 @@ impl<'a> Core<'a> {
     }
 }
 
-/// What is at hand when a try ends.
+/// What is made ready before a try ends: its ledger entry, the outcome that its instance keeps, the slots to give back,
+/// its task's retries, its instance's place from 0, and its next try.
 struct Ending {
     entry: Entry,
     kept: Outcome,
@@ -344,7 +355,8 @@ struct Ending {
     retry: Retry,
 }
 
-/// The entry of a try that was given this and ends so, and the outcome that its instance keeps.
+/// The ledger entry of a try that was given `given` and ends with `outcome`, and a copy of the outcome for its
+/// instance.
 fn entry_and_kept_outcome(
     alloc: Global,
     given: &Given,
@@ -361,7 +373,8 @@ fn entry_and_kept_outcome(
     Ok((entry, outcome.copy(alloc)?))
 }
 
-/// Refuses to close a run: `Stranger` where it isn't there, `NotEnabled` where it isn't open or a task isn't settled.
+/// Refuses a run that may not be closed: `Stranger` where it isn't there, `NotEnabled` where it isn't open or a task
+/// isn't settled.
 fn refuse_unless_closable(dag: &Dag, state: &State, run: u32) -> Result<(), Illegal>
     requires { HasRows dag.now state.now }
     ensures ok { OnOk result ((run < length state.now.runs)

@@ -55,8 +55,8 @@ pub fn place_of(dag: &Dag, name: JobName) -> u32
     }
 }
 
-/// Whether the task of a name may have an instance of the name's map index: an unmapped task only -1, an expanded one
-/// none below 0.
+/// Whether a name's map index suits its task: -1 for a task that isn't expanded or isn't there, from 0 up for an
+/// expanded one.
 fn has_index_of_task(dag: &Dag, name: JobName) -> bool
     ensures { IsTrue result ↔ (map_index (task_of dag.now name.task) (place_in dag.now name)
         ≡ name.index) }
@@ -68,7 +68,7 @@ fn has_index_of_task(dag: &Dag, name: JobName) -> bool
     }
 }
 
-/// The name of the instance's next try, after the one of this name.
+/// The name of the try after this one, of the same instance.
 pub(crate) fn next_try(name: JobName) -> JobName
     requires { name.attempt + 1 < 2 ^ 32 }
     ensures { result ≡ next_try_of name }
@@ -79,7 +79,7 @@ pub(crate) fn next_try(name: JobName) -> JobName
     }
 }
 
-/// The instance at `place`, from 0, of a task in a run; None where there is none, or none yet.
+/// The instance at `place`, from 0, of a task in a run; None where the task has no such instance, or has none yet.
 pub(crate) fn instance_at(state: &State, run: u32, task: u32, place: usize) -> Option<&Instance>
     ensures { option_copied result ≡ instance_of (cell_at state.now run task) place }
 {
@@ -89,7 +89,8 @@ pub(crate) fn instance_at(state: &State, run: u32, task: u32, place: usize) -> O
     }
 }
 
-/// The instance of a name, whichever of its tries is named; None where the task has none of that map index now.
+/// The instance that a name speaks of, whichever of its tries is named; None where the task has none of that map index
+/// now.
 fn instance_named<'a>(dag: &Dag, state: &'a State, name: JobName) -> Option<&'a Instance>
     ensures some { IfSome result (λ x. IsOfName dag.now state.entry.now name x.now) }
     ensures none { IfNone result ((x : Instance) → IsOfName dag.now state.entry.now name x
@@ -103,7 +104,7 @@ fn instance_named<'a>(dag: &Dag, state: &'a State, name: JobName) -> Option<&'a 
     }
 }
 
-/// The instance of a try's name, where that is its present try or an earlier one; None for any other name.
+/// The instance of which `name` is the present try or an earlier one; None where there is none.
 fn instance_known_as<'a>(dag: &Dag, state: &'a State, name: JobName) -> Option<&'a Instance>
     ensures some { IfSome result (λ x. IsKnownAs dag.now state.entry.now name x.now) }
     ensures none { IfNone result ((x : Instance) → IsKnownAs dag.now state.entry.now name x
@@ -136,7 +137,7 @@ fn is_as_asked(instance: &Instance, attempt: u32, asked: Unfinished) -> bool
     instance.attempt == attempt && is_in_phase
 }
 
-/// The instance of a try that waits or runs, whichever is `asked`; None where the try isn't so.
+/// The instance whose present try is `name` and waits or runs, whichever is `asked`; None where there is none.
 pub(crate) fn unfinished_instance<'a>(
     dag: &Dag,
     state: &'a State,
@@ -156,8 +157,8 @@ pub(crate) fn unfinished_instance<'a>(
     }
 }
 
-/// The instance of a try that waits or runs, whichever is `asked`. `Stranger` where the try isn't the present one of
-/// its instance or an earlier one, else `NotEnabled` where it isn't so.
+/// The instance whose present try is `name` and waits or runs, whichever is `asked`. `Stranger` where `name` is neither
+/// the present try of an instance nor an earlier one, else `NotEnabled` where it doesn't wait or run as asked.
 pub(crate) fn require_unfinished_instance<'a>(
     dag: &Dag,
     state: &'a State,

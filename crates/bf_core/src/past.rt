@@ -59,8 +59,8 @@ impl Cell {
     }
 }
 
-/// The verdict, in the run behind `run`, on a task that depends on its past; to wait where `run` or the task isn't
-/// there.
+/// The verdict on a task that depends on its past, in the run after `run`, by its cell in `run`; to wait where `run` or
+/// the task isn't there.
 fn past_verdict(state: &State, run: u32, task: u32) -> Verdict
     ensures { result ≡ past_ruling (value_in (cell_at state.now run task)) }
 {
@@ -70,8 +70,8 @@ fn past_verdict(state: &State, run: u32, task: u32) -> Verdict
     }
 }
 
-/// The verdict on a task: `verdict`, which its upstreams give; but where that is to run, the task depends on its past
-/// and `run` isn't the first, that of the run before.
+/// The verdict on a task with its past (Airflow's `depends_on_past`): that of the run before where `verdict`, which its
+/// upstreams give, is to run, the task depends on its past and `run` isn't the first; else `verdict`.
 pub(crate) fn verdict_with_past(
     state: &State,
     run: u32,

@@ -10,11 +10,11 @@ ghost use Rattle.bf_core.specs.inner.Words.{pushed_by_one, pushed_by_first, pull
 use crate::state::{Cell, Instance, Phase, State, are_finished};
 use bf_plan::{Dag, Task};
 use bf_value::{OutOfMemory, Values, Xval, copy_option};
-use bf_xcom::Pulled;
+use bf_xcom::SharedValue;
 use std::alloc::Global;
 
 impl Instance {
-    /// What it pushed; nothing where it isn't finished or pushed nothing.
+    /// What the instance pushed; None where it isn't finished or pushed nothing.
     fn pushed(&self) -> Option<&Xval>
         ensures { option_copied result ≡ pushed_by_one self.now }
     {
@@ -24,7 +24,17 @@ impl Instance {
         }
     }
 
-    /// A copy of what it pushed; nothing where it isn't finished or pushed nothing.
+    /// What it pushed, shared; nothing where it isn't finished or pushed nothing.
+    fn share_pushed(&self) -> Result<SharedValue, OutOfMemory>
+        ensures { IfOk result (λ value. value ≡ pushed_by_one self.now) }
+    {
+        match &self.phase {
+            Phase::Finished(outcome) => outcome.share_pushed(),
+            Phase::Waiting | Phase::Running => Ok(SharedValue::nothing()),
+        }
+    }
+
+    /// A copy of what the instance pushed; None where it isn't finished or pushed nothing.
     pub(crate) fn copy_of_pushed(&self, alloc: Global) -> Result<Option<Xval>, OutOfMemory>
         ensures { IfOk result (λ value. value ≡ pushed_by_one self.now) }
     {
@@ -32,7 +42,7 @@ impl Instance {
     }
 }
 
-/// A copy of what the first instance pushed, which of an unmapped task is the only one; None where it isn't there,
+/// A copy of what the first instance pushed, the only one of an unmapped task; None where there is none, or where it
 /// isn't finished or pushed nothing.
 pub(crate) fn pushed_by_first_of(
     alloc: Global,
@@ -46,7 +56,18 @@ pub(crate) fn pushed_by_first_of(
     }
 }
 
-/// A copy of what each instance pushed, by map index; one that isn't finished or pushed nothing is left out.
+/// What the first instance pushed, shared, which of an unmapped task is the only one; nothing where it isn't there, isn't
+/// finished or pushed nothing.
+fn share_pushed_by_first_of(instances: &[Instance]) -> Result<SharedValue, OutOfMemory>
+    ensures { IfOk result (λ value. value ≡ pushed_by_first instances.now) }
+{
+    match instances {
+        [] => Ok(SharedValue::nothing()),
+        [instance, ..] => instance.share_pushed(),
+    }
+}
+
+/// Copies of what the instances pushed, by map index, without those that aren't finished or pushed nothing.
 fn pushed_by_all(alloc: Global, instances: &[Instance]) -> Result<Vec<Xval>, OutOfMemory>
     ensures { IfOk result (λ values. values.items ≡ filter_map pushed_by_one instances.now) }
 {
@@ -59,56 +80,58 @@ fn pushed_by_all(alloc: Global, instances: &[Instance]) -> Result<Vec<Xval>, Out
     Ok(values)
 }
 
-/// What is pulled from the task `source` by its instances: what its only one pushed, or where it is expanded the list
-/// of what they pushed. None while one hasn't finished, or where the only one pushed nothing.
+/// What is pulled from the task `source` with these instances: what its only one pushed, or where `source` is expanded,
+/// the list of what they pushed. None while one hasn't finished, or where the only one pushed nothing.
 fn pull_from(
     alloc: Global,
     source: &Task,
     instances: &[Instance],
-) -> Result<Option<Xval>, OutOfMemory>
+) -> Result<SharedValue, OutOfMemory>
     ensures { IfOk result (λ value. value ≡ pulled_from source.now instances.now) }
 {
     if !are_finished(instances) {
-        return Ok(None);
+        return Ok(SharedValue::nothing());
     }
     if source.expand.is_none() {
-        return pushed_by_first_of(alloc, instances);
+        return share_pushed_by_first_of(instances);
     }
     let values = pushed_by_all(alloc, instances)?;
-    Ok(Some(Xval::List(Values::new(values))))
+    SharedValue::new(alloc, Some(Xval::List(Values::new(values))))
 }
 
 impl Cell {
-    /// What is pulled from the task `source` with this cell; None where it isn't settled or didn't run, or isn't
-    /// expanded and pushed nothing.
+    /// What is pulled from the task `source` with this cell; None where the cell isn't settled or the task didn't run,
+    /// or where it isn't expanded and pushed nothing.
     #[tactic(auto, using(crate::proofs::Pulled::ran_pull))]
-    fn pull(&self, alloc: Global, source: &Task) -> Result<Option<Xval>, OutOfMemory>
+    fn pull(&self, alloc: Global, source: &Task) -> Result<SharedValue, OutOfMemory>
         ensures { IfOk result (λ value. value
             ≡ option_and_then (pull_of source.now) (value_in self.now)) }
     {
         match self {
             Cell::Ran(instances) => pull_from(alloc, source, instances.as_slice()),
-            Cell::Undecided | Cell::Blocked | Cell::Skipped | Cell::UpstreamFailed => Ok(None),
+            Cell::Undecided | Cell::Blocked | Cell::Skipped | Cell::UpstreamFailed => {
+                Ok(SharedValue::nothing())
+            }
         }
     }
 }
 
-/// What is pulled from the task `source` in a run; None where it isn't settled, didn't run or isn't there, or isn't
-/// expanded and pushed nothing.
+/// What is pulled from the task `source` in a run; None where it isn't there, isn't settled or didn't run, or where it
+/// isn't expanded and pushed nothing.
 fn pull_in_run(
     alloc: Global,
     dag: &Dag,
     state: &State,
     run: u32,
     source: u32,
-) -> Result<Option<Xval>, OutOfMemory>
+) -> Result<SharedValue, OutOfMemory>
     requires { HasRows dag.now state.now }
     ensures { IfOk result (λ value. value
         ≡ pull_seen dag.now (λ u. seen_in (cell_at state.now run u)) source) }
 {
     match state.cell(run, source) {
         Some(cell) => cell.pull(alloc, dag.task(source)),
-        None => Ok(None),
+        None => Ok(SharedValue::nothing()),
     }
 }
 
@@ -119,15 +142,14 @@ pub(crate) fn pull_all(
     state: &State,
     run: u32,
     sources: &[u32],
-) -> Result<Vec<Pulled>, OutOfMemory>
+) -> Result<Vec<SharedValue>, OutOfMemory>
     requires { HasRows dag.now state.now }
     ensures { IfOk result (λ values. values.items
         ≡ map (pull_seen dag.now (λ u. seen_in (cell_at state.now run u))) sources.now) }
 {
     let mut values = Vec::with_capacity(alloc, sources.len())?;
     for source in sources {
-        let value = pull_in_run(alloc, dag, state, run, *source)?;
-        values.push(Pulled::new(alloc, value)?)?;
+        values.push(pull_in_run(alloc, dag, state, run, *source)?)?;
     }
     Ok(values)
 }

@@ -36,7 +36,7 @@ impl<'a> Core<'a> {
         self.runs
     }
 
-    /// How many runs were opened so far, and so which is the next to open.
+    /// How many runs were opened so far, which is also the next run to open, from 0.
     pub fn opened_runs(&self) -> u32
         ensures next { result ≡ next_run self.now.state }
         ensures within { result ≤ length self.now.state.runs }
@@ -60,8 +60,8 @@ impl<'a> Core<'a> {
         self.journal.as_slice()
     }
 
-    /// The cell of a task in a run, where both are there, with at most 1,024 instances. What it says of the task
-    /// so far is the recursion's over every ledger that holds the entries so far.
+    /// The cell of a task in a run, with at most 1,024 instances; None where the run or the task isn't there. What the
+    /// cell says so far is the recursion's over every ledger that holds the entries so far.
     pub fn cell(&self, run: u32, task: u32) -> Option<&Cell>
         ensures there { IsSome result ↔ IsThere self.now.dag self.now.state run task }
         ensures cell { IfSome result (λ c. c.now ≡ cell_at self.now.state run task) }
@@ -72,15 +72,15 @@ impl<'a> Core<'a> {
         self.state.cell(run, task)
     }
 
-    /// Whether a task in a run is settled: decided, and each of its instances finished.
+    /// Whether a task in a run is settled: decided, and each of its instances finished; false where it isn't there.
     pub fn is_settled(&self, run: u32, task: u32) -> bool
         ensures { result ≡ is_some (value_in (cell_at self.now.state run task)) }
     {
         is_settled(&self.state, run, task)
     }
 
-    /// The instance that a try's name speaks of, by its map index; None where there is none now. Which of its tries
-    /// is named doesn't matter.
+    /// The instance that a name speaks of, whichever of its tries is named, by its map index; None where there is none
+    /// now.
     pub fn instance(&self, name: JobName) -> Option<&Instance>
         ensures { option_copied result
             ≡ instance_of (cell_at self.now.state name.run name.task) (place_in self.now.dag name) }
@@ -110,7 +110,7 @@ impl<'a> Core<'a> {
         self.clock.later_moment_of(name)
     }
 
-    /// How many slots of a pool are occupied: the slots of its running instances, and no more than it has.
+    /// How many slots of a pool are occupied: those of the instances that run in it, never more than the pool has.
     pub fn occupied(&self, pool: u32) -> u32
         requires { pool < length self.now.limits.pools }
         ensures slots { result ≡ occupied self.now.limits self.now.state pool }
@@ -119,7 +119,7 @@ impl<'a> Core<'a> {
         self.pools.occupied(pool)
     }
 
-    /// Whether the slots that a try of the task takes fit its pool beside those that are occupied.
+    /// Whether the task's pool has enough slots free for one more try of the task.
     pub fn has_room(&self, task: u32) -> bool
         requires { task < length self.now.dag.tasks }
         ensures { result ≡ has_room_in self.now.limits self.now.state task }
@@ -137,7 +137,7 @@ impl<'a> Core<'a> {
         self.next_to_open().is_some()
     }
 
-    /// The event that decides a task now, `Expand` where it is by its expansion, else `Settle`; None where the task
+    /// The event that decides a task now: `Expand` where its expansion decides it, else `Settle`. None where the task
     /// can't be decided now, or isn't there.
     pub fn decision_event(&self, run: u32, task: u32) -> Option<Event>
         ensures may_come { IfSome result (MayCome self.now) }
@@ -166,7 +166,7 @@ impl<'a> Core<'a> {
         }
     }
 
-    /// Whether a run may be closed: it is open, and each of its tasks is settled.
+    /// Whether a run may be closed: it is there and open, and each of its tasks is settled.
     pub fn may_close(&self, run: u32) -> bool
         ensures { IsTrue result ↔ MayCome self.now (Event.Close run) }
     {
@@ -176,8 +176,8 @@ impl<'a> Core<'a> {
         }
     }
 
-    /// A law: never stuck. While no try runs, a backfill that hasn't ended has an event that may come and is no tick, or a
-    /// try that waits for a later moment.
+    /// A law: never stuck. While no try runs, a backfill that hasn't ended has an event other than a tick that may
+    /// come, or a try that waits for a later moment.
     pub fn never_stuck(&self)
         ensures { running_now self.now.state ≡ 0 → GoesOn self.now }
     {

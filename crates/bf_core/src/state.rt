@@ -15,7 +15,7 @@ use bf_value::{OutOfMemory, Sequence};
 use bf_xcom::Given;
 use std::alloc::Global;
 
-/// Where an instance is.
+/// How far an instance has come.
 #[derive(Debug, Drop)]
 pub enum Phase {
     /// Its present try has not begun.
@@ -34,7 +34,7 @@ const ONE_UNFINISHED: Counts = Counts {
     unfinished: 1,
 };
 
-/// The counts of one instance with this outcome.
+/// The counts of a single instance that finished with this outcome: 1 for its state, 0 for all others.
 fn counts_of_outcome(outcome: &Outcome) -> Counts
     ensures { result ≡ one_of outcome.now }
 {
@@ -48,7 +48,7 @@ fn counts_of_outcome(outcome: &Outcome) -> Counts
 }
 
 impl Phase {
-    /// The counts of one instance in this phase.
+    /// The counts of a single instance in this phase: 1 for its state, 0 for all others.
     fn counts(&self) -> Counts
         ensures { result ≡ counts_of_instance self.now }
     {
@@ -66,7 +66,7 @@ impl Phase {
     }
 }
 
-/// An instance of a task in a run.
+/// An instance of a task in a run: what its tries are given, and how far it has come.
 #[derive(Debug, Drop)]
 pub struct Instance {
     pub given: Given,
@@ -79,7 +79,8 @@ pub struct Instance {
 #[derive(Drop)]
 pub(crate) enum Change {
     Begin,
-    /// It ends so, where its task has that many retries. One that failed and may be made again waits for its next try.
+    /// It ends with `outcome`, where its task has so many `retries`. A failed try that has a retry left is followed by
+    /// another.
     End { retries: u32, outcome: Outcome },
 }
 
@@ -92,7 +93,8 @@ pub(crate) fn is_retried(retries: u32, attempt: u32, outcome: &Outcome) -> bool
 }
 
 impl Instance {
-    /// Begins a try, or ends it: to wait for the next one where it is retried, and else to be finished.
+    /// Begins or ends the present try. At its end the instance waits for its next try where that is made, else it is
+    /// finished.
     fn change(&mut self, change: Change)
         requires { IsCountable change }
         ensures { self.new ≡ changed change self.old }
@@ -132,7 +134,7 @@ pub(crate) fn are_finished(instances: &[Instance]) -> bool
         .all(|instance| instance.phase.is_finished())
 }
 
-/// A task in a run.
+/// What was decided of a task in a run.
 #[derive(Debug, Drop)]
 pub enum Cell {
     Undecided,
@@ -144,7 +146,7 @@ pub enum Cell {
 }
 
 impl Cell {
-    /// How many instances are in each state.
+    /// How many instances of the task are in each state; a task without instances counts as one.
     pub(crate) fn counts(&self) -> Counts
         requires { IsFew self.now }
         ensures { result ≡ counts_of_cell self.now }
@@ -208,7 +210,7 @@ impl RunPhase {
         matches!(self, RunPhase::Closed)
     }
 
-    /// Whether the run is open: begun, and not closed.
+    /// Whether the run is open: opened, and not closed yet.
     pub(crate) fn is_open(self) -> bool
         ensures { result ≡ is_open self }
     {
@@ -238,7 +240,7 @@ pub(crate) fn is_closable(row: &Run) -> bool
     row.phase.is_open() && are_settled(row.cells.as_slice())
 }
 
-/// The cells of a run of so many tasks, none of which is decided yet.
+/// The cells of a new run: an undecided one for each of `tasks` tasks.
 #[tactic(auto, using(crate::proofs::Starting::one_more_cell))]
 fn undecided_cells(alloc: Global, tasks: usize) -> Result<Sequence<Cell>, OutOfMemory>
     ensures { IfOk result (λ cells. cells ≡ undecided_cells_of tasks) }
@@ -250,7 +252,7 @@ fn undecided_cells(alloc: Global, tasks: usize) -> Result<Sequence<Cell>, OutOfM
     Ok(Sequence::from_vec(cells))
 }
 
-/// So many runs that are not opened, each with an undecided cell for each of so many tasks.
+/// As many unopened runs as `runs` says, each with an undecided cell for each of `tasks` tasks.
 #[tactic(auto, using(crate::proofs::Starting::one_more_run))]
 pub(crate) fn unopened_runs(
     alloc: Global,

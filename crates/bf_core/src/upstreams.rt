@@ -27,7 +27,7 @@ fn counts_at(state: &State, run: u32, task: u32) -> Counts
     }
 }
 
-/// How many instances of these upstreams are in each state.
+/// How many instances all these upstreams together have in each state, in a run.
 fn counts_of_upstreams(state: &State, run: u32, upstreams: &[u32]) -> Counts
     requires few { AreFew state.now }
     requires few_upstreams { length upstreams.now ≤ 20_000 }
@@ -50,8 +50,8 @@ pub(crate) fn is_settled(state: &State, run: u32, task: u32) -> bool
     }
 }
 
-/// Whether an upstream doesn't keep a task from being decided in a run: it is settled, or it is no branch and the
-/// task's rule may decide before it is settled.
+/// Whether an upstream lets a task be decided in a run: it is settled, or it is no branch and the task's rule needn't
+/// wait until it is settled.
 fn lets_decide(dag: &Dag, state: &State, run: u32, task: &Task, upstream: u32) -> bool
     ensures { result ≡ lets_decide_in dag.now task.now (λ u. seen_in (cell_at state.now run u))
         upstream }
@@ -60,7 +60,7 @@ fn lets_decide(dag: &Dag, state: &State, run: u32, task: &Task, upstream: u32) -
         || (!task.rule.waits_until_settled() && !dag.is_branch(upstream))
 }
 
-/// Whether none of these upstreams keeps a task from being decided in a run.
+/// Whether each of these upstreams lets a task be decided in a run, as in `lets_decide`.
 fn all_let_decide(dag: &Dag, state: &State, run: u32, task: &Task, upstreams: &[u32]) -> bool
     ensures { result ≡ list_all (lets_decide_in dag.now task.now
         (λ u. seen_in (cell_at state.now run u))) upstreams.now }
@@ -76,8 +76,8 @@ fn phase_skips(plan: &Plan, branch: u32, task: u32, phase: &Phase) -> bool
     ensures { result ≡ phase_skips_in plan.now.dag task branch phase.now }
 {
     match phase {
-        Phase::Finished(Outcome::Success(value)) => {
-            !followed(plan.graph(), branch, value.as_ref(), task)
+        Phase::Finished(Outcome::Success(pushed)) => {
+            !followed(plan.graph(), branch, pushed.get(), task)
         }
         _ => false,
     }
@@ -98,7 +98,8 @@ fn instances_skip(plan: &Plan, branch: u32, task: u32, instances: &[Instance]) -
 }
 
 impl Cell {
-    /// Whether a branch with this cell skips a task: it succeeded, and doesn't follow the task.
+    /// Whether a branch with this cell skips a task: its instances have finished, and the first succeeded and doesn't
+    /// follow the task.
     #[tactic(auto, using(crate::proofs::Branching::ran_skips))]
     fn skips_task(&self, plan: &Plan, branch: u32, task: u32) -> bool
         requires { task < length plan.now.dag.tasks }
@@ -110,7 +111,7 @@ impl Cell {
         }
     }
 
-    /// Whether the task is decided to be blocked.
+    /// Whether the task was decided to be blocked.
     #[tactic(auto, using(crate::proofs::Branching::ran_not_blocked))]
     fn is_blocked(&self) -> bool
         ensures { result ≡ known_to_be is_blocked_in (value_in self.now) }
@@ -129,8 +130,11 @@ fn branch_skips_task(plan: &Plan, state: &State, run: u32, upstream: u32, task: 
     ensures { result ≡ branch_is plan.now.dag (branch_skips plan.now.dag task upstream) upstream
         (value_in (cell_at state.now run upstream)) }
 {
+    if !plan.dag().is_branch(upstream) {
+        return false;
+    }
     match state.cell(run, upstream) {
-        Some(cell) => plan.dag().is_branch(upstream) && cell.skips_task(plan, upstream, task),
+        Some(cell) => cell.skips_task(plan, upstream, task),
         None => false,
     }
 }
@@ -141,8 +145,11 @@ fn branch_is_blocked(dag: &Dag, state: &State, run: u32, upstream: u32) -> bool
     ensures { result ≡ branch_is dag.now is_blocked_in upstream
         (value_in (cell_at state.now run upstream)) }
 {
+    if !dag.is_branch(upstream) {
+        return false;
+    }
     match state.cell(run, upstream) {
-        Some(cell) => dag.is_branch(upstream) && cell.is_blocked(),
+        Some(cell) => cell.is_blocked(),
         None => false,
     }
 }

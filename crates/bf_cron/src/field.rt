@@ -7,15 +7,15 @@ ghost use Rattle.bf_cron.specs.Cron.{least_of, greatest_of};
 pub enum Field {
     Minute,
     Hour,
-    /// Of the month.
+    /// The day of the month.
     Day,
     Month,
-    /// From Sunday, which is 0 and 7.
+    /// From 0 to 7, where 0 and 7 are Sunday.
     Weekday,
 }
 
 impl Field {
-    /// The least number that the field can have: 1 for days and months, else 0.
+    /// Gives the least number that the field may have: 1 for days and months, else 0.
     pub fn least(self) -> u8
         ensures { result ≡ least_of self }
     {
@@ -25,7 +25,7 @@ impl Field {
         }
     }
 
-    /// The greatest number that the field can have, included: 7, a second Sunday, for weekdays.
+    /// Gives the greatest number that the field may have; for weekdays that is 7, a second Sunday.
     pub fn greatest(self) -> u8
         ensures { result ≡ greatest_of self }
     {

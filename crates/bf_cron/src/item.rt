@@ -1,6 +1,6 @@
 //! Items of a field.
 
-/// The numbers from `low` to `high` by steps of `step` from `low`.
+/// The numbers from `low` to `high` in steps of `step`, beginning with `low`.
 #[derive(Clone, Copy, Debug, PartialEq, Eq)]
 pub struct Item {
     pub low: u8,

@@ -8,7 +8,7 @@ use crate::spec::{CronFault, CronSpec};
 use jiff::civil::{Date, DateTime};
 use std::alloc::Global;
 
-/// Whether the set `word` of numbers below 64, one bit each, has this number.
+/// Answers whether `word`, a set of numbers below 64 with one bit each, has this number.
 fn is_bit_set(word: u64, number: u8) -> bool
     requires { number < 64 }
     ensures { result ≡ has_number word number }
@@ -16,7 +16,7 @@ fn is_bit_set(word: u64, number: u8) -> bool
     (word >> number) & 1 == 1
 }
 
-/// The day of the month of a date.
+/// Gives the day of the month of a date, from 1.
 fn day_number(date: Date) -> u8
     ensures value { result ≡ date.day }
     ensures bound { result < 32 }
@@ -24,7 +24,7 @@ fn day_number(date: Date) -> u8
     date.day() as u8
 }
 
-/// The month of a date, from 1.
+/// Gives the month of a date, from 1.
 fn month_number(date: Date) -> u8
     ensures value { result ≡ date.month }
     ensures bound { result < 13 }
@@ -32,7 +32,7 @@ fn month_number(date: Date) -> u8
     date.month() as u8
 }
 
-/// The day of the week of a date, from Sunday, which is 0.
+/// Gives the weekday of a date, 0 for Sunday to 6 for Saturday.
 fn weekday_number(date: Date) -> u8
     ensures { result ≡ (weekday_of date + 1) % 7 }
 {
@@ -54,7 +54,8 @@ fn minute_number(at: DateTime) -> u8
 }
 
 impl CronSpec {
-    /// The schedule of a text: five fields or a preset (the crate's page). `Bad` exactly where the text is neither.
+    /// Reads a schedule from a text: five fields, or a preset (the crate's page gives the form). `Bad` where the text
+    /// is neither, `OutOfMemory` at want of memory.
     pub fn read(alloc: Global, text: &str) -> Result<CronSpec, CronFault>
         ensures { IsRead (schedule_of text.now) result }
     {
@@ -66,7 +67,7 @@ impl CronSpec {
         reading::spec_of_fields(minute, hour, day, month, weekday).ok_or(CronFault::Bad)
     }
 
-    /// Whether the schedule has a day of the week, 0 for Sunday, which its field may also call 7.
+    /// Answers whether the schedule's weekday field has this weekday, 0 for Sunday, which the field may also call 7.
     fn has_weekday(&self, weekday: u8) -> bool
         requires { weekday < 7 }
         ensures { result ≡ spec_on_weekday self.now weekday }
@@ -74,8 +75,8 @@ impl CronSpec {
         is_bit_set(self.weekdays, weekday) || weekday == 0 && is_bit_set(self.weekdays, 7)
     }
 
-    /// Whether the schedule has this day of a month that falls on this weekday, 0 for Sunday: where both fields are
-    /// restricted either suffices, else both must match (crontab(5)).
+    /// Answers whether the schedule has a day of the month that falls on this weekday, 0 for Sunday. Where both fields
+    /// are restricted, not `*`, either suffices; else both must match (crontab(5)).
     fn has_day_of_month(&self, day: u8, weekday: u8) -> bool
         requires day { day < 32 }
         requires weekday { weekday < 7 }
@@ -89,7 +90,7 @@ impl CronSpec {
         }
     }
 
-    /// Whether the hour field of the schedule has this hour.
+    /// Answers whether the schedule's hour field has this hour.
     pub fn has_hour(&self, hour: u8) -> bool
         requires { hour < 24 }
         ensures { result ≡ has_number self.now.hours hour }
@@ -97,7 +98,7 @@ impl CronSpec {
         is_bit_set(self.hours, hour)
     }
 
-    /// Whether the minute field of the schedule has this minute of an hour.
+    /// Answers whether the schedule's minute field has this minute.
     pub fn has_minute(&self, minute: u8) -> bool
         requires { minute < 60 }
         ensures { result ≡ has_number self.now.minutes minute }
@@ -106,13 +107,13 @@ impl CronSpec {
     }
 }
 
-/// What has a schedule, as a schedule itself.
+/// What is, or holds, a schedule.
 pub trait Scheduled {
     ghost use Rattle.bf_cron.specs.declared.spec.CronSpec.{CronSpec};
 
     ghost spec: { Self → CronSpec };
 
-    /// The schedule that it has.
+    /// Gives the schedule.
     fn schedule(&self) -> &CronSpec
         ensures { result.now ≡ spec self.now };
 }
@@ -120,20 +121,21 @@ pub trait Scheduled {
 impl Scheduled for CronSpec {
     ghost spec = { λ s. s };
 
+    /// Gives this schedule itself.
     fn schedule(&self) -> &CronSpec {
         self
     }
 }
 
-/// Which dates and civil minutes a schedule has. They are methods of a trait that is implemented for no type by its name,
-/// so that a crate that holds a schedule, and asks for no date, has no calendar in its interface.
+/// Which dates and civil minutes a schedule has. It is implemented for every `Scheduled` type and for none by name, so
+/// that a crate that only holds a schedule has no calendar in its interface.
 pub trait Matches: Scheduled {
-    /// Whether the schedule has the date. Where both day and weekday are restricted either suffices, else both must
-    /// match (crontab(5)).
+    /// Answers whether the schedule has this date. Where day and weekday are both restricted either suffices, else both
+    /// must match (crontab(5)).
     fn has_date(&self, date: Date) -> bool
         ensures { result ≡ spec_has_date (Self.spec self.now) date };
 
-    /// Whether the schedule has the civil minute. Only its minute, hour, day, month and weekday count.
+    /// Answers whether the schedule has this civil minute; seconds don't count.
     fn matches(&self, at: DateTime) -> bool
         ensures value { result ≡ spec_matches (Self.spec self.now) at }
         ensures rule { (s : Schedule) → Keeps (Self.spec self.now) s
@@ -141,16 +143,19 @@ pub trait Matches: Scheduled {
 }
 
 impl<S: Scheduled> Matches for S {
+    /// Answers whether the schedule has this date, as `schedule_has_date` does.
     fn has_date(&self, date: Date) -> bool {
         schedule_has_date(self.schedule(), date)
     }
 
+    /// Answers whether the schedule has this civil minute, as `schedule_matches` does.
     fn matches(&self, at: DateTime) -> bool {
         schedule_matches(self.schedule(), at)
     }
 }
 
-/// Whether a schedule has a date: its month, and its day as `has_day_with_weekday` joins day and weekday.
+/// Answers whether a schedule has this date: its month and its day, where day and weekday join as in
+/// `has_day_of_month`.
 fn schedule_has_date(spec: &CronSpec, date: Date) -> bool
     ensures { result ≡ spec_has_date spec.now date }
 {
@@ -160,7 +165,7 @@ fn schedule_has_date(spec: &CronSpec, date: Date) -> bool
     spec.has_day_of_month(day_number(date), weekday_number(date))
 }
 
-/// Whether a schedule has a civil time's minute, hour and date. Seconds don't count.
+/// Answers whether a schedule has a civil time's minute, hour and date; seconds don't count.
 fn schedule_matches(spec: &CronSpec, at: DateTime) -> bool
     ensures value { result ≡ spec_matches spec.now at }
     ensures rule { (s : Schedule) → Keeps spec.now s → spec_matches spec.now at ≡ matches s at }

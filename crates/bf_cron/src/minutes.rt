@@ -9,13 +9,13 @@ use crate::spec::CronSpec;
 use jiff::civil::{Date, DateTime};
 use jiff_core::civil;
 
-/// The number of the dates 1969-12-30 to 2208-12-31, in which schedules are looked for.
+/// How many dates schedules are searched in: those from 1969-12-30 to 2208-12-31.
 pub const DATES: u64 = 87_295;
 
-/// The number of the minutes of a date.
+/// How many minutes a date has.
 const MINUTES_OF_DATE: u16 = 1_440;
 
-/// The date `day` days after 1969-12-30, at most 2208-12-31.
+/// Gives the date `day` days after 1969-12-30.
 pub fn date_of(day: u64) -> Date
     requires { day < 87_295 }
     ensures { IsDay day result }
@@ -26,7 +26,7 @@ pub fn date_of(day: u64) -> Date
     Date::from_plain(date)
 }
 
-/// The civil time `minute` minutes, below 1,440, after a date's midnight.
+/// Gives the civil time `minute` minutes after a date's midnight.
 pub fn minute_of(date: Date, minute: u16) -> DateTime
     requires { minute < 1_440 }
     ensures date { result.date ≡ date }
@@ -37,7 +37,7 @@ pub fn minute_of(date: Date, minute: u16) -> DateTime
 }
 
 impl CronSpec {
-    /// Whether the schedule has the hour and the minute of the time `minute` minutes after midnight, on whatever
+    /// Answers whether the schedule has the hour and the minute of the time `minute` minutes after midnight, on any
     /// date.
     fn has_time(&self, minute: u16) -> bool
         requires { minute < 1_440 }
@@ -46,7 +46,8 @@ impl CronSpec {
         self.has_minute((minute % 60) as u8) && self.has_hour((minute / 60) as u8)
     }
 
-    /// The first time of a day whose hour and minute the schedule has, in minutes after midnight; None where none is.
+    /// Finds the first time of day whose hour and minute the schedule has, in minutes after midnight; None where it has
+    /// none.
     fn first_time(&self) -> Option<u16>
         ensures some { IfSome result (λ m. (m < 1_440) × (spec_has_time self.now m ≡ true)) }
         ensures none { IfNone result ((m : ℕ) → m < 1_440 → spec_has_time self.now m ≡ true → ⊥) }
@@ -59,8 +60,8 @@ impl CronSpec {
         None
     }
 
-    /// Whether the schedule has no civil minute of the dates 1969-12-30 to 2208-12-31, as `0 0 30 2 *` has none. It
-    /// takes no memory, and looks at no date after the first that the schedule has.
+    /// Answers whether the schedule has no civil minute in the dates 1969-12-30 to 2208-12-31; true for `0 0 30 2 *`.
+    /// It takes no memory.
     pub fn never_fires(&self) -> bool
         ensures { IsTrue result ↔ NeverFires self.now }
     {

@@ -7,7 +7,7 @@ ghost use Rattle.bf_cron.specs.Cron.{names, digit, small_number, number_of, step
 
 use crate::field::Field;
 
-/// The number that an ASCII digit stands for; None for another byte.
+/// Gives the number of an ASCII digit; None for any other byte.
 fn digit_of(byte: u8) -> Option<u8>
     ensures value { result ≡ digit byte }
     ensures small { IfSome result (λ n. n ≤ 9) }
@@ -18,7 +18,7 @@ fn digit_of(byte: u8) -> Option<u8>
     }
 }
 
-/// The number that one or two ASCII digits spell; None for any other text.
+/// Reads a number of one or two ASCII digits; None for any other text.
 fn small_number_in(text: &[u8]) -> Option<u8>
     ensures { result ≡ small_number text.now }
 {
@@ -29,7 +29,7 @@ fn small_number_in(text: &[u8]) -> Option<u8>
     }
 }
 
-/// A text of three letters, in lower case.
+/// Gives a text of three letters in lower case.
 fn lower_case_of(text: &[u8]) -> [u8; 3]
     requires { length text.now ≡ 3 }
     ensures { result ≡ map to_ascii_lowercase text.now }
@@ -41,7 +41,7 @@ fn lower_case_of(text: &[u8]) -> [u8; 3]
     ]
 }
 
-/// The number of a month by its English name in three lower-case letters, 1 for `jan`; None for any other.
+/// Gives the number of the month with this name of three lower-case letters, 1 for `jan`; None for any other name.
 fn month_named(name: [u8; 3]) -> Option<u8>
     ensures value { result ≡ option_map (λ i. i + 1)
         (position (λ known. bytes_eq known name) (names Month)) }
@@ -64,7 +64,7 @@ fn month_named(name: [u8; 3]) -> Option<u8>
     }
 }
 
-/// The number of a weekday by its English name in three lower-case letters, 0 for `sun`; None for any other.
+/// Gives the number of the weekday with this name of three lower-case letters, 0 for `sun`; None for any other name.
 fn weekday_named(name: [u8; 3]) -> Option<u8>
     ensures value { result ≡ option_map (λ i. i + 0)
         (position (λ known. bytes_eq known name) (names Weekday)) }
@@ -82,8 +82,8 @@ fn weekday_named(name: [u8; 3]) -> Option<u8>
     }
 }
 
-/// The number that a text says in a field, as one or two digits or as a month's or weekday's name in any case; None
-/// where the field can't have it.
+/// Reads a number of a field: one or two digits or, for months and weekdays, a name of three letters in any case. None
+/// where the text is neither, or the field can't have the number.
 pub(crate) fn read_number(field: Field, text: &[u8]) -> Option<u8>
     ensures value { result ≡ number_of field text.now }
     ensures small { IfSome result (λ n. n < 60) }
@@ -104,7 +104,7 @@ pub(crate) fn read_number(field: Field, text: &[u8]) -> Option<u8>
     }
 }
 
-/// The step of an item, from 1 to 59; 1 where none is written (`text` is None), and None where the text is no step.
+/// Reads an item's step, from 1 to 59; 1 where `text` is None, and None where it is no such number.
 pub(crate) fn read_step(text: Option<&[u8]>) -> Option<u8>
     ensures value { result ≡ step_of (option_map (λ s. s.now) text.entry) }
     ensures above { IfSome result (λ n. 0 < n) }

@@ -11,14 +11,15 @@ use crate::numbers;
 use crate::spec::CronSpec;
 use std::alloc::{AllocError, Global};
 
-/// The index of the first byte that is `at`; None where there is none.
+/// Finds the first byte `at`, by its index; None where there is none.
 fn position_of_byte(text: &[u8], at: u8) -> Option<usize>
     ensures { result ≡ position (λ b. b == at) text.now }
 {
     text.iter().position(|b| *b == at)
 }
 
-/// What stands before the first byte that is `at`, and what stands after it; all and None where no byte is `at`.
+/// Splits a text at its first byte `at` into what stands before and after it; gives the whole text and None where there
+/// is none.
 fn split_at_byte(text: &[u8], at: u8) -> (&[u8], Option<&[u8]>)
     ensures before { result.0.now ≡ before_first (λ b. b == at) text.now }
     ensures rest { option_map (λ s. s.now) result.1 ≡ after at text.now }
@@ -29,7 +30,7 @@ fn split_at_byte(text: &[u8], at: u8) -> (&[u8], Option<&[u8]>)
     }
 }
 
-/// The item of a field that a text says, as `*/5`, `mon-fri` or `7`; None where it says none, as for `5/2` or `5-3`.
+/// Reads an item of a field, such as `*/5`, `mon-fri` or `7`; None for any other text, such as `5/2` or `5-3`.
 fn read_item(field: Field, text: &[u8]) -> Option<Item>
     ensures value { result ≡ item_of field text.now }
     ensures item { IfSome result IsItem }
@@ -67,7 +68,7 @@ fn read_item(field: Field, text: &[u8]) -> Option<Item>
     }
 }
 
-/// `word` with the bits of an item's numbers set too, bit 0 for the number 0.
+/// Gives `word` with the bits of the item's numbers set too, bit 0 for the number 0.
 fn with_numbers(item: Item, word: u64) -> u64
     requires { IsItem item }
     ensures { (v : ℕ) → v < 64 → bit_at result v ≡ (if item_has v item then 1 else bit_at word v) }
@@ -81,7 +82,7 @@ fn with_numbers(item: Item, word: u64) -> u64
     all
 }
 
-/// The numbers that a field's text, items between commas, says, one bit each; None where an item is bad.
+/// Reads a field, items joined by commas, as the set of its numbers, one bit each; None where an item is bad.
 fn read_field(field: Field, text: &[u8]) -> Option<u64>
     ensures { IsField (field_of field text.now) result }
 {
@@ -92,7 +93,7 @@ fn read_field(field: Field, text: &[u8]) -> Option<u64>
     Some(word)
 }
 
-/// The parts of a text between spaces and tabs, none of them empty.
+/// Splits a text at spaces and tabs, and leaves out empty parts.
 pub(crate) fn split_fields(alloc: Global, text: &[u8]) -> Result<Vec<&[u8]>, AllocError>
     ensures { IfOk result (λ v. map (λ s. s.now) v.items ≡ fields_of text.now) }
 {
@@ -101,7 +102,7 @@ pub(crate) fn split_fields(alloc: Global, text: &[u8]) -> Result<Vec<&[u8]>, All
         .collect(alloc)
 }
 
-/// The five fields that a preset as `@daily` stands for (Airflow's "Cron Presets"); any other text unchanged.
+/// Gives the five fields that one of Airflow's presets, such as `@daily`, stands for; any other text unchanged.
 pub(crate) fn expand_preset(text: &str) -> &str
     ensures { result.now ≡ preset text.now }
 {
@@ -116,7 +117,7 @@ pub(crate) fn expand_preset(text: &str) -> &str
     }
 }
 
-/// The schedule that the texts of five fields say; None where one of them is no such field.
+/// Reads a schedule from the texts of its five fields; None where one of them is bad.
 pub(crate) fn spec_of_fields(
     minute: &[u8],
     hour: &[u8],

@@ -5,8 +5,8 @@ ghost use Rattle.bf_cron.specs.declared.spec.CronFault.TheVariants.{OutOfMemory}
 use std::alloc::AllocError;
 use thiserror::Error;
 
-/// A schedule. The bits of a word are the numbers that its field has: bit 5 of `hours` is set where the schedule has
-/// the hour 5. `any_day` and `any_weekday` say that the text of the field is exactly `*`.
+/// A schedule. Each word is the set of a field's numbers: bit 5 of `hours` is set where the schedule has the hour 5.
+/// `any_day` and `any_weekday` are true where the text of that field is exactly `*`.
 #[derive(Clone, Copy, Debug, PartialEq, Eq)]
 pub struct CronSpec {
     pub minutes: u64,
@@ -18,7 +18,7 @@ pub struct CronSpec {
     pub any_weekday: bool,
 }
 
-/// Why a text was not read as a schedule.
+/// Why a text could not be read as a schedule.
 #[derive(Clone, Copy, Debug, PartialEq, Eq, Error)]
 pub enum CronFault {
     #[error("bad cron")]
@@ -30,6 +30,7 @@ pub enum CronFault {
 impl From<AllocError> for CronFault {
     ghost from_gives = { λ _ e. e ≡ OutOfMemory };
 
+    /// Gives `OutOfMemory`.
     fn from(_e: AllocError) -> CronFault {
         CronFault::OutOfMemory
     }

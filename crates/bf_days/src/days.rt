@@ -8,14 +8,14 @@ use bf_moment::moment_in;
 /// A day, in nanoseconds.
 pub(crate) const DAY: i128 = 86_400_000_000_000;
 
-/// The days from the first to the last, counted from 1970-01-01.
+/// Days from `first` to `last`, both included, counted from 1970-01-01, which is 0. `first` may be after `last`.
 #[derive(Clone, Copy, Debug, PartialEq, Eq)]
 pub struct Days {
     pub first: i64,
     pub last: i64,
 }
 
-/// The day that a text spells, as `2024-03-04`, in days after 1970-01-01; None for any other text.
+/// Reads a day spelled as `2024-03-04`, counted from 1970-01-01, which is 0; None for any other text.
 fn day_in(text: &str) -> Option<i64>
     ensures found { IfSome result (SpellsDay text.now) }
     ensures none { IfNone result ((day : ℤ) → SpellsDay text.now day → ⊥) }
@@ -28,7 +28,7 @@ fn day_in(text: &str) -> Option<i64>
 }
 
 impl Days {
-    /// The days that a text spells: one, as `2024-03-04`, or those from one to another, both included, as
+    /// Reads days from a text: one, such as `2024-03-04`, or those from one to another, both included, such as
     /// `2024-03-04..2024-03-10`; None for any other text. The first may be after the last.
     pub fn read(text: &str) -> Option<Days>
         ensures found { IfSome result (SpellDays text.now) }

@@ -15,19 +15,19 @@ use jiff::Timestamp;
 use jiff::tz::TimeZone;
 use std::alloc::Global;
 
-/// The last day of the year 2199, counted from 1970-01-01.
+/// The last day of the year 2199, counted from 1970-01-01, which is 0.
 const LAST_DAY: i64 = 84_005;
 
 /// A day, in nanoseconds.
 const DAY: u64 = 86_400_000_000_000;
 
-/// No clock is further from UTC than 25:59:59, the greatest offset that `jiff` has.
+/// The furthest that a clock is from UTC, in nanoseconds: 25:59:59, the greatest offset that `jiff` has.
 const GREATEST_OFFSET: u64 = 93_599_000_000_000;
 
-/// The first nanosecond behind the years that runs lie in.
+/// The first nanosecond since 1970 behind the years that runs lie in.
 const END_OF_YEARS: u64 = 7_258_118_399_000_000_001;
 
-/// A schedule in a zone, of which the data intervals are sought that start on some days.
+/// The search for the data intervals of a schedule, in a zone, that start on some days.
 #[derive(Clone, Copy)]
 struct Search<'a, 'z> {
     spec: &'a CronSpec,
@@ -35,7 +35,7 @@ struct Search<'a, 'z> {
     days: Days,
 }
 
-/// The moment so many nanoseconds after 1970-01-01T00:00Z.
+/// Gives the moment at this nanosecond since 1970-01-01T00:00:00Z.
 fn moment_of_nanosecond(nanosecond: u64) -> Timestamp
     requires { nanosecond < 7_258_118_399_000_000_001 }
     ensures { result.nanosecond ≡ pos nanosecond }
@@ -47,8 +47,8 @@ fn moment_of_nanosecond(nanosecond: u64) -> Timestamp
 }
 
 impl Search<'_, '_> {
-    /// Adds to `found` those of the `listed` data intervals that start on the days sought; `TooManyRuns` where these
-    /// would be more than `MOST_RUNS`.
+    /// Adds to `found` those of the `listed` data intervals that start on the days sought. `TooManyRuns` where `found`
+    /// would have more than `MOST_RUNS`, `OutOfMemory` at want of memory.
     fn push_those_on_days(
         self,
         found: &mut Vec<Interval>,
@@ -74,8 +74,9 @@ impl Search<'_, '_> {
         Ok(())
     }
 
-    /// Adds to `found` the data intervals that start on the days sought, from the nanosecond `from` on and before
-    /// `to`. Where more start in this time than can be listed at once, on those days or not, it is halved.
+    /// Adds to `found` the data intervals that start on the days sought, from the nanosecond `from` since 1970 on and
+    /// before `to`. Where more start in this time than can be listed at once, it halves it. `TooManyRuns` where `found`
+    /// would have more than `MOST_RUNS`, `OutOfMemory` at want of memory.
     fn push_intervals_between(
         self,
         alloc: Global,
@@ -117,17 +118,17 @@ impl Search<'_, '_> {
     }
 }
 
-/// Whether a day, counted from 1970-01-01, which is 0, is within the years 1970 to 2199.
+/// Answers whether a day, counted from 1970-01-01, which is 0, lies in the years 1970 to 2199.
 fn is_in_years(day: i64) -> bool
     ensures { IsTrue result ↔ IsDayInYears day }
 {
     (0..=LAST_DAY).contains(&day)
 }
 
-/// The data intervals at whose start a clock of the zone shows one of the days, in order; none where the schedule
-/// never fires. Those that start outside the years of runs aren't among them. A fault comes, in this order, for a day
-/// outside the years 1970 to 2199, a first day after the last, and more than `MOST_RUNS` data intervals. Those of a
-/// schedule that was read from a text may be given to `Runs::from_intervals`.
+/// Lists the data intervals at whose start the zone's clocks show one of the days, in order, without those that start
+/// outside the years 1970 to 2199; none where the schedule never fires. Err, in this order: `OutsideYears` for a day
+/// outside those years, `RangeReversed` for a first day after the last, `TooManyRuns` for more than `MOST_RUNS`.
+/// `OutOfMemory` comes at want of memory. `Runs::from_intervals` takes those of a schedule that was read from a text.
 pub fn intervals_on(
     alloc: Global,
     spec: &CronSpec,

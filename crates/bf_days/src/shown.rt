@@ -10,7 +10,7 @@ use jiff::tz::TimeZone;
 /// A second, in nanoseconds.
 const SECOND: i128 = 1_000_000_000;
 
-/// The day that a clock of the zone shows at a moment, in days after 1970-01-01, negative before.
+/// Gives the day that the zone's clocks show at a moment, counted from 1970-01-01, which is 0; negative before.
 fn day_shown(zone: &TimeZone<'_>, at: Timestamp) -> i128
     ensures { result ≡ day_shown_of (plain_zone zone.now) at.nanosecond }
 {
@@ -18,7 +18,7 @@ fn day_shown(zone: &TimeZone<'_>, at: Timestamp) -> i128
     (at.as_nanosecond() + offset).div_euclid(DAY)
 }
 
-/// Whether a clock of the zone shows one of the days at the moment `at`.
+/// Answers whether the zone's clocks show one of the days at the moment `at`.
 pub(crate) fn is_clock_on_days(zone: &TimeZone<'_>, days: Days, at: Timestamp) -> bool
     ensures { result ≡ is_on_day (plain_zone zone.now) days at.nanosecond }
 {

@@ -9,17 +9,18 @@ use std::fmt;
 /// Why nothing is cleared.
 #[derive(Clone, Copy, Debug, PartialEq, Eq)]
 pub enum ClearFault {
-    /// A task that is to be cleared is the id of none.
+    /// A seed names a task that the plan lacks.
     UnknownTask,
-    /// A run that is to be cleared is the logical date of none.
+    /// A seed names a run whose logical date is the start of no data interval.
     UnknownRun,
-    /// The report isn't one of this graph over this range.
+    /// The report isn't one of this graph over these data intervals.
     ReportMismatch,
+    /// Memory ran out.
     OutOfMemory,
 }
 
 impl ClearFault {
-    /// The number of the refusal (docs/FORMATS.md), 40 to 42; None for want of memory.
+    /// The number of the refusal in docs/FORMATS.md, from 40 to 42; None for want of memory.
     pub fn refusal_number(self) -> Option<u32>
         ensures { result ≡ refusal_number_of self }
     {
@@ -38,7 +39,7 @@ impl fmt::Display for ClearFault {
 
     ghost output = { λ fault. Some (fault_text fault) };
 
-    /// Writes the words of the fault.
+    /// Writes the text of the fault, such as `unknown task`.
     fn fmt<W: fmt::Write>(&self, f: &mut fmt::Formatter<W>) -> fmt::Result {
         f.write_str(match self {
             ClearFault::UnknownTask => "unknown task",

@@ -13,15 +13,15 @@ use bf_plan::{Dag, Plan};
 use bf_value::{OutOfMemory, Sequence};
 use std::alloc::Global;
 
-/// Whether one of these tasks is marked.
-fn some_is_marked(marks: &[bool], tasks: &[u32]) -> bool
+/// Whether one of these tasks is marked in `marks`, the row of a run.
+fn any_is_marked(marks: &[bool], tasks: &[u32]) -> bool
     ensures { result ≡ list_any (is_marked_in marks.now) tasks.now }
 {
     tasks.iter().any(|task| is_marked(marks, *task))
 }
 
-/// Whether a task has to be marked in a run: it is one of the seeds `seeded`, depends on its past and is marked in
-/// `before`, the run before, or has an upstream marked in `marks`, this run.
+/// Whether task number `task` has to be marked in a run: `seeded` marks it as a seed, it depends on its past and is
+/// marked in `before`, the run before, or an upstream of it is marked in `marks`, this run.
 pub(crate) fn follows(
     dag: &Dag,
     task: u32,
@@ -32,14 +32,14 @@ pub(crate) fn follows(
     requires { task < length dag.now.tasks }
     ensures { result ≡ follows_in dag.now task seeded.now before.now marks.now }
 {
-    let of = dag.task(task);
+    let considered = dag.task(task);
     is_marked(seeded, task)
-        || (of.depends_on_past && is_marked(before, task))
-        || some_is_marked(marks, of.upstreams.as_slice())
+        || (considered.depends_on_past && is_marked(before, task))
+        || any_is_marked(marks, considered.upstreams.as_slice())
 }
 
-/// The marks of the tasks of a run, by its seeds, `seeded`, and by the marks of the run before it, `before`, empty
-/// for the first. `order` has each task after its upstreams.
+/// The marks of a run: the tasks that `seeded` marks as seeds, and all that follow from these and from `before`, the
+/// marks of the run before, empty for the first. `order` has each task after its upstreams.
 fn marks_of(
     alloc: Global,
     dag: &Dag,
@@ -60,7 +60,7 @@ fn marks_of(
     Ok(Sequence::from_vec(marks))
 }
 
-/// For each of the first `runs` runs the marks of the tasks of which an instance follows from the seeds.
+/// A row of marks for each of the first `runs` runs: the tasks of which at least one instance follows from the seeds.
 pub(crate) fn touched_marks_of(
     alloc: Global,
     plan: &Plan,

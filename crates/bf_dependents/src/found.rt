@@ -25,8 +25,8 @@ fn seed_set_of(alloc: Global, seeds: &[Place]) -> Result<BTreeSet<Place>, OutOfM
     Ok(held)
 }
 
-/// Which instances follow from seeds. A task is touched in a run where one of its instances follows. Contracts see
-/// for each run the marks of the touched tasks, and the seeds.
+/// The instances that follow from seeds, the seeds among them: a row of marks for each run, of the tasks of which an
+/// instance follows, and the seeds themselves. Contracts see both.
 #[derive(Drop)]
 pub struct Followers {
     touched: Sequence<Sequence<bool>>,
@@ -46,7 +46,7 @@ impl Model for Followers {
 }
 
 impl Followers {
-    /// What follows from these seeds; `touched` has the marks of the touched tasks of each run.
+    /// The instances that follow from these seeds; `touched` marks in each run the tasks of which an instance follows.
     pub(crate) fn new(
         alloc: Global,
         touched: Sequence<Sequence<bool>>,
@@ -59,30 +59,29 @@ impl Followers {
         Ok(Followers { touched, seeds })
     }
 
-    /// The seeds that all this follows from.
+    /// The seeds that all these instances follow from, themselves among them.
     pub(crate) fn seeds(&self) -> &BTreeSet<Place>
         ensures { result.now.keys ≡ self.now.seeds }
     {
         &self.seeds
     }
 
-    /// Whether an instance of a task follows in a run; false where there is no such run.
+    /// Whether an instance of task number `task` follows in run number `run`; false where there is no such run or task.
     pub(crate) fn is_touched(&self, run: u32, task: u32) -> bool
         ensures { result ≡ is_marked_in (row_at self.now.touched run) task }
     {
         is_marked(marks_at(self.touched.as_slice(), run), task)
     }
 
-    /// Whether a task in a run is a seed: as a whole where `index` is None, and else just its instance of this map
-    /// index.
+    /// Whether a task in a run is a seed: as a whole where `index` is None, else its instance of that map index.
     fn has_seed(&self, run: u32, task: u32, index: Option<i32>) -> bool
         ensures { result ≡ has_seed_in self.now.seeds run task index }
     {
         self.seeds.contains(&Place { run, task, index })
     }
 
-    /// Whether each instance of a touched task follows in a run, and not only those that are seeds by their map
-    /// index.
+    /// Whether all instances of a task follow in a run, given that one does: the task is a seed without a map index, or
+    /// it follows from others.
     pub(crate) fn is_whole(&self, dag: &Dag, run: u32, task: u32) -> bool
         requires { task < length dag.now.tasks }
         ensures { result ≡ is_whole_in dag.now self.now run task }
@@ -92,9 +91,9 @@ impl Followers {
             || follows(dag, task, &[], marks_before(rows, run), marks_at(rows, run))
     }
 
-    /// Whether an instance of a task that is touched in a run follows: it is a seed itself, or the whole task
-    /// follows.
-    fn is_led_to(&self, dag: &Dag, run: u32, task: u32, index: i32) -> bool
+    /// Whether an instance of a task follows in a run, given that one does: it is a seed itself, or the whole task is a
+    /// seed or follows from others.
+    fn follows_if_touched(&self, dag: &Dag, run: u32, task: u32, index: i32) -> bool
         requires { task < length dag.now.tasks }
         ensures { result ≡ is_led_to_in dag.now self.now run task index }
     {
@@ -104,18 +103,19 @@ impl Followers {
             || follows(dag, task, &[], marks_before(rows, run), marks_at(rows, run))
     }
 
-    /// Whether an instance of a task follows in a run; false where there is no such run. Takes time over the task's
-    /// direct upstreams.
+    /// Whether the instance of map index `index` of task number `task` follows in run number `run`; false where there
+    /// is no such run. Takes time over the task's direct upstreams.
     pub fn has_instance(&self, dag: &Dag, run: u32, task: u32, index: i32) -> bool
         requires { task < length dag.now.tasks }
         ensures { result ≡ has_instance_in dag.now self.now run task index }
     {
-        self.is_touched(run, task) && self.is_led_to(dag, run, task, index)
+        self.is_touched(run, task) && self.follows_if_touched(dag, run, task, index)
     }
 }
 
-/// Which instances of the first `runs` runs follow from the seeds, these among them. Takes time for each run over the
-/// tasks and edges, and once over the seeds.
+/// The instances of the first `runs` runs that follow from the seeds, these among them: downstream in their run and,
+/// for tasks that depend on their past, in later runs (Airflow's "Clear", downstream and future). Takes time over the
+/// tasks and upstreams of each run, and once over the seeds.
 pub fn dependents(
     alloc: Global,
     plan: &Plan,

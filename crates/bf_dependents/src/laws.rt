@@ -7,9 +7,9 @@ ghost use Rattle.bf_dependents.specs.declared.place.Place.{Place};
 ghost use Rattle.bf_dependents.specs.Dependents.{AreDependents, Following, IsDependent};
 ghost use Rattle.bf_dependents.specs.Listing.{places_in, IsListed};
 
-/// A law: what follows from the seeds is in each set that has each instance of a seed without an index, the instance
-/// of a seed with one, and, for each member, all instances of its task's direct downstreams in the same run, and,
-/// where the task depends on its past, all its instances in the next run.
+/// A law: what follows from seeds is part of every set that has the seeds and, with each of its members, all instances
+/// of the tasks directly downstream in the same run and, where its task depends on its past, all instances of that task
+/// in the next run.
 pub fn dependents_are_least()
     ensures { (dag : Dag) (seeds : List Place) (has : ℕ → ℕ → ℤ → Bool) →
         ((k t : ℕ) (i : ℤ) → Contains seeds (record { run = k; task = t; index = None }) → has k t i
@@ -23,14 +23,14 @@ pub fn dependents_are_least()
         (k t : ℕ) (i : ℤ) → IsDependent dag seeds k t i → has k t i ≡ true }
 {}
 
-/// A law: from seeds without an index whole tasks follow, that is, each instance of a task in a run, or none.
+/// A law: from seeds without a map index whole tasks follow: of a task in a run either all instances or none.
 pub fn seeds_without_indexes_take_tasks()
     ensures { (dag : Dag) (seeds : List Place) → ((p : Place) → Contains seeds p → p.index ≡ None) →
         (k t : ℕ) (i j : ℤ) → IsDependent dag seeds k t i → IsDependent dag seeds k t j }
 {}
 
-/// A law: from a seed with an index follows what follows from its task in that run, less the task's other instances
-/// in it.
+/// A law: from a seed with a map index follows what follows from its whole task in that run, except for the task's
+/// other instances there.
 pub fn a_seed_with_an_index_leaves_its_neighbours()
     ensures { (dag : Dag) → IsSound dag → (k t : ℕ) (n : ℤ) (m s : ℕ) (i : ℤ) →
         IsDependent dag (record { run = k; task = t; index = Some n } ∷ []) m s i
@@ -38,8 +38,8 @@ pub fn a_seed_with_an_index_leaves_its_neighbours()
         × (m ≡ k → s ≡ t → i ≡ n)) }
 {}
 
-/// A law: `places` lists just the instances that follow: each instance of a task listed without an index, and each
-/// instance listed by one.
+/// A law: `places` lists exactly the instances that follow: all of a task listed without a map index, and each one
+/// listed with its own.
 pub fn places_are_what_follows()
     ensures { (dag : Dag) (seeds : List Place) (runs : ℕ) (all : Following)
         → AreDependents dag seeds runs all →

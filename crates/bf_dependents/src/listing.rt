@@ -10,7 +10,7 @@ use bf_value::OutOfMemory;
 use std::alloc::{AllocError, Global};
 
 impl Followers {
-    /// The seeds that are of this task in this run, as a whole or by a map index.
+    /// The seeds of task number `task` in run number `run`, with or without a map index, in order.
     fn seeds_at(&self, alloc: Global, run: u32, task: u32) -> Result<Vec<Place>, AllocError>
         ensures { IfOk result (λ found. found.items ≡ filter (is_of run task) self.now.seeds) }
     {
@@ -21,8 +21,8 @@ impl Followers {
             .collect(alloc)
     }
 
-    /// What follows of a task in a run: the task without an index where each instance does, else its seeds, none
-    /// where it isn't touched.
+    /// What follows of a task in a run: the whole task, as one place without a map index, or else the instances that
+    /// are seeds. Empty where nothing of it follows.
     fn places_at(
         &self,
         alloc: Global,
@@ -43,7 +43,7 @@ impl Followers {
         Ok(self.seeds_at(alloc, run, task)?)
     }
 
-    /// Adds to `places` what follows in a run, of the first `tasks` tasks, in file order.
+    /// Adds to `places` what follows of the first `tasks` tasks in run number `run`, in file order.
     fn add_run(
         &self,
         alloc: Global,
@@ -63,9 +63,9 @@ impl Followers {
         Ok(())
     }
 
-    /// What follows in the first `runs` runs, by run and task in the file's order: a task of which each instance
-    /// follows without an index, and else the instances that are seeds. Takes time over the seeds for each task of
-    /// which some instances follow and others don't.
+    /// What follows in the first `runs` runs, by run and by task in file order: a place without a map index where all
+    /// instances of a task follow, else a place for each of its instances that is a seed. For each task of the latter
+    /// kind it takes time over all seeds.
     pub fn places(&self, alloc: Global, plan: &Plan, runs: u32) -> Result<Vec<Place>, OutOfMemory>
         ensures { IfOk result (λ places. places.items ≡ places_in plan.now.dag self.now runs) }
     {

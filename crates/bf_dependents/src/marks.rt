@@ -8,7 +8,7 @@ use crate::place::Place;
 use bf_value::{OutOfMemory, Sequence};
 use std::alloc::Global;
 
-/// Whether a task is marked in `marks`, the row of a run; false where there is no such task.
+/// Whether task number `task` is marked in `marks`, the row of a run; false where the row has no such task.
 pub(crate) fn is_marked(marks: &[bool], task: u32) -> bool
     ensures { result ≡ is_marked_in marks.now task }
 {
@@ -18,7 +18,7 @@ pub(crate) fn is_marked(marks: &[bool], task: u32) -> bool
     }
 }
 
-/// The row of marks of the run before `run`; empty for the first, and where there is no such row.
+/// The row of the run before run number `run`; empty for run 0, and where there is no such row.
 pub(crate) fn marks_before(rows: &[Sequence<bool>], run: u32) -> &[bool]
     ensures { result.now ≡ marks_before_in rows.now run }
 {
@@ -31,7 +31,7 @@ pub(crate) fn marks_before(rows: &[Sequence<bool>], run: u32) -> &[bool]
     }
 }
 
-/// The row of marks of a run; empty where there is no such run.
+/// The row of run number `run`, from 0; empty where there is no such row.
 pub(crate) fn marks_at(rows: &[Sequence<bool>], run: u32) -> &[bool]
     ensures { result.now ≡ row_at rows.now run }
 {
@@ -41,7 +41,7 @@ pub(crate) fn marks_at(rows: &[Sequence<bool>], run: u32) -> &[bool]
     }
 }
 
-/// A row of `tasks` marks for each of `runs` runs, in which no task is marked.
+/// A row of `tasks` marks for each of `runs` runs, none of them set.
 fn unmarked_rows(alloc: Global, runs: u32, tasks: usize) -> Result<Vec<Sequence<bool>>, OutOfMemory>
     ensures { IfOk result (λ rows. AreUnmarked runs tasks rows.items) }
 {
@@ -52,7 +52,8 @@ fn unmarked_rows(alloc: Global, runs: u32, tasks: usize) -> Result<Vec<Sequence<
     Ok(rows)
 }
 
-/// Marks the task of a place in the row of its run; does nothing where there is no such run or task.
+/// Marks the task of `place` in the row of its run, whatever its map index; does nothing where there is no such run or
+/// task.
 fn mark(rows: &mut Vec<Sequence<bool>>, place: Place)
     ensures { rows.new.items ≡ with_mark rows.old.items place }
 {
@@ -64,7 +65,8 @@ fn mark(rows: &mut Vec<Sequence<bool>>, place: Place)
     }
 }
 
-/// A row of `tasks` marks for each of `runs` runs, in which the tasks of the seeds are marked, whatever their index.
+/// A row of `tasks` marks for each of `runs` runs, in which the tasks of the seeds are marked, whatever their map
+/// index.
 pub(crate) fn seed_rows(
     alloc: Global,
     seeds: &[Place],

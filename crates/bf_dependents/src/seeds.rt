@@ -11,23 +11,26 @@ use bf_value::{OutOfMemory, Text};
 use jiff::Timestamp;
 use std::alloc::Global;
 
-/// A task, by its id, in the run of a logical date, or one instance of it.
+/// A task, by its id, in the run of a logical date, or one instance of it: what a user asks to clear.
 #[derive(Debug, Drop)]
 pub struct Seed {
+    /// The id of the task.
     pub task: Text,
+    /// The logical date of the run.
     pub run: Timestamp,
-    /// The map index of the instance, -1 of a task that isn't expanded. Where there is none, it is each instance.
+    /// The map index of the one instance, -1 where the task isn't expanded; None for all instances.
     pub index: Option<i32>,
 }
 
-/// The number of the task that a seed names; None where the plan has none.
+/// The number of the task that a seed names, from 0 in file order; None where the plan has no such task.
 fn task_number_of(plan: &Plan, seed: &Seed) -> Option<u32>
     ensures { result ≡ task_number plan.now.dag seed.now }
 {
     plan.graph().number_of(seed.task.as_str())
 }
 
-/// The number, from 0, of the run whose data interval starts at the seed's moment; None where there is none.
+/// The number, from 0, of the run that a seed names: the place of the first data interval that starts at its logical
+/// date. None where none does.
 fn run_number_of(intervals: &[Interval], seed: &Seed) -> Option<usize>
     ensures { result ≡ run_number intervals.now seed.now }
 {
@@ -35,36 +38,36 @@ fn run_number_of(intervals: &[Interval], seed: &Seed) -> Option<usize>
     intervals.iter().position(|interval| interval.start == run)
 }
 
-/// Whether a seed names a task that the plan doesn't have.
+/// Whether a seed names a task that the plan lacks.
 fn is_unknown_task(plan: &Plan, seed: &Seed) -> bool
     ensures { result ≡ is_unknown_task_in plan.now.dag seed.now }
 {
     task_number_of(plan, seed).is_none()
 }
 
-/// Whether a seed names a run that is over none of these data intervals.
+/// Whether a seed names a run that is the start of none of these data intervals.
 fn is_unknown_run(intervals: &[Interval], seed: &Seed) -> bool
     ensures { result ≡ is_unknown_run_in intervals.now seed.now }
 {
     run_number_of(intervals, seed).is_none()
 }
 
-/// Whether some seed names a task that the plan doesn't have.
+/// Whether any of these seeds names a task that the plan lacks.
 fn has_unknown_task(plan: &Plan, seeds: &[Seed]) -> bool
     ensures { result ≡ list_any (is_unknown_task_in plan.now.dag) seeds.now }
 {
     seeds.iter().any(|seed| is_unknown_task(plan, seed))
 }
 
-/// Whether some seed names a run that is over none of these data intervals.
+/// Whether any of these seeds names a run that is the start of none of these data intervals.
 fn has_unknown_run(intervals: &[Interval], seeds: &[Seed]) -> bool
     ensures { result ≡ list_any (is_unknown_run_in intervals.now) seeds.now }
 {
     seeds.iter().any(|seed| is_unknown_run(intervals, seed))
 }
 
-/// `UnknownTask` where a seed names a task that the plan doesn't have, and else `UnknownRun` where one names a run
-/// that is over none of these data intervals.
+/// Refuses seeds: with `UnknownTask` where any names a task that the plan lacks, else with `UnknownRun` where any names
+/// a run that is the start of none of these data intervals. It never gives another fault.
 pub fn refuse_seeds(plan: &Plan, intervals: &[Interval], seeds: &[Seed]) -> Result<(), ClearFault>
     ensures ok { IfOk result (λ _. seed_fault plan.now.dag intervals.now seeds.now ≡ None) }
     ensures err { IfErr result (λ fault. seed_fault plan.now.dag intervals.now seeds.now
@@ -79,7 +82,8 @@ pub fn refuse_seeds(plan: &Plan, intervals: &[Interval], seeds: &[Seed]) -> Resu
     Ok(())
 }
 
-/// The place that a seed names; None where the plan hasn't its task, or no data interval is that of its run.
+/// The place that a seed names; None where the plan lacks its task, or its run is the start of none of these data
+/// intervals.
 fn place_of(plan: &Plan, intervals: &[Interval], seed: &Seed) -> Option<Place>
     requires few { length intervals.now ≤ 4_096 }
     ensures { result ≡ place_in plan.now.dag intervals.now seed.now }
@@ -93,8 +97,8 @@ fn place_of(plan: &Plan, intervals: &[Interval], seed: &Seed) -> Option<Place>
     })
 }
 
-/// The places that seeds name, tasks in runs or single instances, in order; a seed of an unknown task or run has
-/// none.
+/// The places that these seeds name, in order. A seed has none where the plan lacks its task, or its run is the start
+/// of none of these data intervals.
 pub fn places_of(
     alloc: Global,
     plan: &Plan,

@@ -3,7 +3,7 @@ ghost use Rattle.std.specs.Prelude.{◌≡◌, ◌≤◌, length};
 
 use crate::device::{Halt, Read};
 
-/// Bytes in memory, of which the first were read.
+/// A device that gives bytes in memory.
 #[derive(Drop)]
 pub struct Bytes {
     bytes: Vec<u8>,
@@ -14,7 +14,7 @@ pub struct Bytes {
 impl Bytes {
     ghost use Rattle.bf_device.specs.Bytes.{bytes_left};
 
-    /// A device that gives these bytes, of which none was read.
+    /// Makes a device that gives these bytes.
     pub fn new(bytes: Vec<u8>) -> Bytes
         ensures { bytes_left result ≡ bytes.items }
     {
@@ -32,7 +32,7 @@ impl Read for Bytes {
 
     ghost failures = { λ _. 0 };
 
-    /// Reads the next bytes into the front of `room`, as many as fit, and gives how many; it never halts.
+    /// Reads the next bytes into the front of `room`, as many as fit, and gives how many; never fails.
     fn read(&mut self, room: &mut [u8]) -> Result<usize, Halt> {
         let count = room.len().min(self.bytes.len() - self.read);
         let to = self.read + count;

@@ -7,19 +7,19 @@ ghost use Rattle.bf_device.specs.Device.{sent, taken, interrupted, write_failed,
 
 use std::io;
 
-/// How often one call of a device goes on after an interruption, as a signal makes one.
+/// How many interruptions, as by signals, one operation on a device tolerates before it gives up.
 pub const MOST_INTERRUPTIONS: u32 = 1_000;
 
-/// Why a device took or gave nothing.
+/// Why a call on a device took or gave no bytes.
 #[derive(Clone, Copy, Debug, PartialEq, Eq)]
 pub enum Halt {
-    /// The call was interrupted, and may be made again.
+    /// The call was interrupted, and can be repeated.
     Again,
     Failed,
 }
 
 impl Halt {
-    /// What an error of std is to a device: `Again` for an interruption, and else `Failed`.
+    /// Converts an error of std: `Again` for an interruption, else `Failed`.
     pub fn from_error(error: &io::Error) -> Halt
         ensures { (result ≡ Halt.Again) ↔ (error_kind error.now ≡ Interrupted) }
     {
@@ -30,7 +30,7 @@ impl Halt {
     }
 }
 
-/// How often a device was interrupted, and how often it failed, as counters of 64 bits count.
+/// How often a device was interrupted, and how often it failed. The counters have 64 bits and wrap to zero.
 #[derive(Clone, Copy, Debug, PartialEq, Eq)]
 pub struct Halts {
     pub interrupted: u64,
@@ -38,7 +38,7 @@ pub struct Halts {
 }
 
 impl Halts {
-    /// The counts of a device that was not called yet.
+    /// Makes the counts of a device that wasn't called yet.
     pub fn none() -> Halts
         ensures { result ≡ record { interrupted = 0; failed = 0 } }
     {
@@ -48,7 +48,7 @@ impl Halts {
         }
     }
 
-    /// Counts one more interruption or failure; a counter at its greatest goes on at zero.
+    /// Counts one more interruption or failure; a counter at its greatest wraps to zero.
     pub fn count(&mut self, halt: Halt)
         ensures interrupted { WentOn (interrupted
             (Err halt)) self.old.interrupted self.new.interrupted }
@@ -61,8 +61,8 @@ impl Halts {
     }
 }
 
-/// What bytes can be written to. Contracts see the bytes that went out, where the device tells them, and how often
-/// it was interrupted and how often it failed, as counters of 64 bits count. To take none of some bytes is to fail.
+/// A device that takes bytes. Contracts see the bytes that went out, where the device tells them, and how often it was
+/// interrupted and how often it failed, in 64-bit counters that wrap. Taking none of some bytes counts as a failure.
 pub trait Write {
     ghost written: { Self → Option (List ℕ) };
 
@@ -70,7 +70,8 @@ pub trait Write {
 
     ghost failures: { Self → ℕ };
 
-    /// Writes a first part of the bytes, and gives its length: zero of some bytes is a failure.
+    /// Writes a first part of the bytes, and gives its length; to take none of some bytes counts as a failure. `Again`
+    /// where the call was interrupted, `Failed` where it failed; then nothing went out.
     fn write(&mut self, bytes: &[u8]) -> Result<usize, Halt>
         ensures bound { IfOk result (λ n. n ≤ length bytes.now) }
         ensures written { written self.new
@@ -81,8 +82,8 @@ pub trait Write {
             (failures self.new) };
 }
 
-/// What bytes can be read from. Contracts see the bytes that are left, where the device tells them, and how often it
-/// was interrupted and how often it failed, as counters of 64 bits count. To give none for some room is the end.
+/// A device that gives bytes. Contracts see the bytes left, where the device tells them, and how often it was
+/// interrupted and how often it failed, in 64-bit counters that wrap. Giving none for some room means the end.
 pub trait Read {
     ghost left: { Self → Option (List ℕ) };
 
@@ -90,7 +91,8 @@ pub trait Read {
 
     ghost failures: { Self → ℕ };
 
-    /// Reads the next bytes into the front of `room`, and gives how many: zero for some room is the end.
+    /// Reads the next bytes into the front of `room`, and gives how many; none for some room means the end. `Again`
+    /// where the call was interrupted, `Failed` where it failed.
     fn read(&mut self, room: &mut [u8]) -> Result<usize, Halt>
         ensures bound { IfOk result (λ n. n ≤ length room.new) }
         ensures bytes { ReadConsumes (left self.old) (left self.new) result room.new }

@@ -3,22 +3,22 @@ ghost use Rattle.std.specs.Prelude.{◌≡◌, ◌+◌};
 
 use crate::device::{Halt, Halts, Read, Write};
 
-/// A device for tests, also those of other crates. It passes on one byte a call, but the `times` calls from the call
-/// `first` on, counted from 0, give `halt`.
+/// A device for tests, of other crates too. It passes on at most one byte a call, but its calls from `first` on,
+/// `times` of them and counted from 0, give `halt`.
 #[derive(Drop)]
 pub struct Halting<D: Drop> {
     pub inner: D,
     pub halt: Halt,
     pub first: u64,
     pub times: u64,
-    /// How many calls were made.
+    /// How many calls were made so far.
     pub calls: u64,
     pub halts: Halts,
 }
 
 impl<D: Drop> Halting<D> {
-    /// A device over `inner` that gives `halt` at `times` of its calls, from the call `first` on, counted from 0, and
-    /// at the others passes on at most one byte.
+    /// Makes a device over `inner` whose calls from `first` on, `times` of them and counted from 0, give `halt`; the
+    /// others pass on at most one byte.
     pub fn new(inner: D, halt: Halt, first: u64, times: u64) -> Self
         ensures { result ≡ record {
           inner = inner;
@@ -62,7 +62,7 @@ impl<W: Write + Drop> Write for Halting<W> {
 
     ghost failures = { λ h. W.failures h.inner + h.halts.failed };
 
-    /// Halts at the calls that are to halt, and else writes at most one byte to the inner device.
+    /// Gives `halt` where this call is to halt, else writes at most one byte to the inner device.
     fn write(&mut self, bytes: &[u8]) -> Result<usize, Halt> {
         let call = self.calls;
         self.calls = self.calls.wrapping_add(1);
@@ -81,7 +81,7 @@ impl<R: Read + Drop> Read for Halting<R> {
 
     ghost failures = { λ h. R.failures h.inner + h.halts.failed };
 
-    /// Halts at the calls that are to halt, and else reads at most one byte off the inner device.
+    /// Gives `halt` where this call is to halt, else reads at most one byte off the inner device.
     fn read(&mut self, room: &mut [u8]) -> Result<usize, Halt> {
         let call = self.calls;
         self.calls = self.calls.wrapping_add(1);

@@ -5,7 +5,7 @@ ghost use Rattle.bf_device.specs.Input.{interrupted_reads, failed_reads};
 use crate::device::{Halt, Halts, Read};
 use std::io;
 
-/// A reader of std, as a file. It tells what that reader tells.
+/// A device that reads from a reader of std, such as a file. It tells contracts what that reader tells.
 #[derive(Drop)]
 pub struct Input<R: io::Read + Drop> {
     pub inner: R,
@@ -13,7 +13,7 @@ pub struct Input<R: io::Read + Drop> {
 }
 
 impl<R: io::Read + Drop> Input<R> {
-    /// A device over a reader of std.
+    /// Makes a device that reads from a reader of std.
     pub fn new(inner: R) -> Self
         ensures { result.inner ≡ inner }
     {
@@ -39,8 +39,8 @@ impl<R: io::Read + Drop> Read for Input<R> {
 
     ghost failures = { λ i. failed_reads i };
 
-    /// Reads once from the inner reader into the front of `room`; an error is counted, as an interruption or a
-    /// failure.
+    /// Reads once from the inner reader into the front of `room`, and gives how many bytes came. An error counts as an
+    /// interruption (`Again`) or a failure (`Failed`).
     fn read(&mut self, room: &mut [u8]) -> Result<usize, Halt> {
         match self.inner.read(room) {
             Ok(count) => Ok(count),

@@ -5,7 +5,7 @@ ghost use Rattle.bf_device.specs.Memory.{bytes_in, refused_writes};
 use crate::device::{Halt, Write};
 use std::alloc::Global;
 
-/// Bytes in memory. A write that finds no memory has failed.
+/// A device that keeps what is written in memory. A write that finds no memory fails.
 #[derive(Drop)]
 pub struct Memory {
     bytes: Vec<u8>,
@@ -13,7 +13,7 @@ pub struct Memory {
 }
 
 impl Memory {
-    /// A device that nothing was written to.
+    /// Makes a device to which nothing was written.
     pub fn new(alloc: Global) -> Memory
         ensures { bytes_in result ≡ [] }
     {
@@ -23,14 +23,14 @@ impl Memory {
         }
     }
 
-    /// The bytes that were written.
+    /// Gives the bytes that were written.
     pub fn as_slice(&self) -> &[u8]
         ensures { result.now ≡ bytes_in self.now }
     {
         self.bytes.as_slice()
     }
 
-    /// Gives up the bytes that were written.
+    /// Turns the device into the bytes that were written.
     pub fn into_vec(self) -> Vec<u8>
         ensures { result.items ≡ bytes_in self }
     {
@@ -48,7 +48,7 @@ impl Write for Memory {
 
     ghost failures = { λ m. refused_writes m };
 
-    /// Adds all of the bytes; where memory is wanting, it adds none and counts a failure.
+    /// Adds all the bytes and gives their number. At want of memory it adds none, counts a failure and gives `Failed`.
     fn write(&mut self, bytes: &[u8]) -> Result<usize, Halt> {
         match self.bytes.extend_from_slice(bytes) {
             Ok(()) => Ok(bytes.len()),

@@ -5,7 +5,7 @@ ghost use Rattle.bf_device.specs.Output.{interrupted_writes, failed_writes};
 use crate::device::{Halt, Halts, Write};
 use std::io;
 
-/// A writer of std, as a file or standard output. It doesn't tell what was written.
+/// A device that writes to a writer of std, such as a file or standard output. Contracts don't see what was written.
 #[derive(Drop)]
 pub struct Output<W: io::Write + Drop> {
     pub inner: W,
@@ -13,7 +13,7 @@ pub struct Output<W: io::Write + Drop> {
 }
 
 impl<W: io::Write + Drop> Output<W> {
-    /// A device over a writer of std.
+    /// Makes a device that writes to a writer of std.
     pub fn new(inner: W) -> Self
         ensures { result.inner ≡ inner }
     {
@@ -41,8 +41,8 @@ impl<W: io::Write + Drop> Write for Output<W> {
 
     ghost failures = { λ o. failed_writes o };
 
-    /// Writes once to the inner writer; an error is counted, as an interruption or a failure, and so is to take
-    /// nothing.
+    /// Writes once to the inner writer, and gives how many bytes it took. An error counts as an interruption (`Again`)
+    /// or a failure (`Failed`); taking none of some bytes counts as a failure too.
     fn write(&mut self, bytes: &[u8]) -> Result<usize, Halt> {
         match self.inner.write(bytes) {
             Ok(count) => {

@@ -5,7 +5,7 @@ ghost use Rattle.bf_device.specs.Device.{sent, WentOn, HasHalted, HasGoneOn};
 use crate::device::{Halt, MOST_INTERRUPTIONS, Write};
 use thiserror::Error;
 
-/// Why a text was not written.
+/// Why not all of a text was written.
 #[derive(Clone, Copy, Debug, PartialEq, Eq, Error)]
 pub enum Cause {
     #[error("cannot write")]
@@ -14,7 +14,7 @@ pub enum Cause {
     OutOfMemory,
 }
 
-/// How many bytes of the text went out, and why no more did.
+/// How many bytes of a text went out, and why the rest didn't.
 #[derive(Clone, Copy, Debug, PartialEq, Eq, Error)]
 #[error("{cause}")]
 pub struct WriteFault {
@@ -22,7 +22,7 @@ pub struct WriteFault {
     pub cause: Cause,
 }
 
-/// The fault of a device that halted after `sent` bytes of the text.
+/// Makes the fault of a device that took no more after `sent` bytes of the text.
 fn halted_after(sent: usize) -> WriteFault
     ensures sent { result.sent ≡ sent }
     ensures cause { result.cause ≡ Cause.Io }
@@ -33,8 +33,8 @@ fn halted_after(sent: usize) -> WriteFault
     }
 }
 
-/// Writes the whole text, in as many calls as the device takes. It gives up where a write fails or takes nothing, and
-/// at the 1,001st interruption; the fault tells how many bytes went out.
+/// Writes the whole text, in as many calls as the device needs. Err where a write fails or takes nothing, or at the
+/// 1,001st interruption; it says how many bytes went out.
 pub fn send<W: Write>(out: &mut W, text: &[u8]) -> Result<(), WriteFault>
     ensures ok { OnOk result (W.written out.new ≡ sent (W.written out.old) text.now) }
     ensures part { IfErr result (λ fault. (fault.sent ≤ length text.now)

@@ -9,7 +9,7 @@ use std::io;
 use std::io::ErrorKind;
 use std::rt::Files;
 
-/// A path as it was given, and the one whose file is replaced: of a link the one that it leads to.
+/// A path as it was given, and the path of the file that is replaced: where the first is a link, the file it leads to.
 #[derive(Drop)]
 pub(crate) struct Target {
     pub(crate) path: String,
@@ -20,14 +20,14 @@ pub(crate) struct Target {
 #[derive(Drop)]
 pub struct Disk<'a, R> {
     pub(crate) rt: &'a R,
-    /// Where a file was to be replaced last.
+    /// The path of the replacement that was begun last, and the file there; None before the first.
     pub(crate) target: Option<Target>,
-    /// Whether one could not be.
+    /// Whether a call that replaces a file has failed.
     pub(crate) failed: bool,
 }
 
 impl<'a, R: Files> Disk<'a, R> {
-    /// The files that a runtime reaches, of which none was opened or replaced.
+    /// Gives the files that a runtime reaches; none has been opened or replaced yet.
     pub fn new(rt: &'a R) -> Self
         ensures { has_failed_on result ≡ false }
     {
@@ -48,7 +48,7 @@ impl From<io::Error> for SourceFault {
     ghost from_gives = { λ error fault. (error_kind error ≡ NoMemory → fault ≡ OutOfMemory)
         × (error_kind error ≢ NoMemory → fault ≡ CannotRead) };
 
-    /// The fault of a file by an error of std.
+    /// Want of memory stays that; any other error of std becomes `CannotRead`.
     fn from(error: io::Error) -> SourceFault {
         match error.kind() {
             ErrorKind::OutOfMemory => SourceFault::OutOfMemory,
@@ -62,7 +62,7 @@ impl<'a, R: Files> Source for Disk<'a, R> {
 
     ghost file = { λ _ _. None };
 
-    /// Opens a path's file for reading.
+    /// Opens the file at a path for reading. `Err` where it can't be opened, or at want of memory.
     fn open(&mut self, path: &str) -> Result<Input<R::File>, SourceFault> {
         Ok(Input::new(File::open(self.rt, path)?))
     }

@@ -11,17 +11,18 @@ use std::io;
 use std::io::{ErrorKind, Read};
 use std::rt::Files;
 
-/// Why a journal is not open.
+/// Why a journal can't be opened.
 #[derive(Clone, Copy, Debug, PartialEq, Eq)]
 pub enum OpenFault {
-    /// It can't be opened, made, locked or read, or is no regular file.
+    /// It isn't a regular file, or can't be opened, made, locked or read.
     CannotRead,
     /// Another backfill has it open.
     InUse,
+    /// Memory ran out.
     OutOfMemory,
 }
 
-/// A journal that is open: what it holds, and what is written to behind that.
+/// An open journal: the bytes that it held when it was opened, and a device that appends to them.
 #[derive(Drop)]
 pub struct OpenJournal<D: Cuttable + Drop> {
     pub held: Vec<u8>,
@@ -32,14 +33,15 @@ pub struct OpenJournal<D: Cuttable + Drop> {
 pub trait Journals {
     ghost use Rattle.std.specs.Prelude.{ℕ, List, Option};
 
+    /// What an open journal is written and cut by.
     type Device: Cuttable + Drop;
 
     /// What a path's journal holds, where that is told: its bytes, which are none where there is no such file, or
     /// `None` where it can't be opened.
     ghost journal: { Self → List ℕ → Option (Option (List ℕ)) };
 
-    /// Opens a path's journal, or makes it, and reads its bytes. While it is open, no other backfill can open it:
-    /// that gets `InUse`.
+    /// Opens the journal at a path, or makes it, and reads its bytes. While it is open, another backfill that opens it
+    /// gets `InUse`. `Err` also where it can't be opened or read, or at want of memory.
     fn open_journal(
         &self,
         alloc: Global,
@@ -48,16 +50,16 @@ pub trait Journals {
         ensures { IfSome (journal self.now path.now) (λ held. OpensJournal held result) };
 }
 
-/// What an error of std is to a journal: want of memory, or else `CannotRead`.
-fn fault_of(error: &io::Error) -> OpenFault {
+/// Want of memory stays that; any other error of std becomes `CannotRead`.
+fn open_fault_of(error: &io::Error) -> OpenFault {
     match error.kind() {
         ErrorKind::OutOfMemory => OpenFault::OutOfMemory,
         _ => OpenFault::CannotRead,
     }
 }
 
-/// Opens the file at a path, or makes it, to read it and to write at its end. An error for what is no regular file,
-/// as a device or a pipe, which might be read for ever.
+/// Opens the file at a path, or makes it, to be read from its start and written at its end. An error for a device or a
+/// pipe, which might be read for ever.
 fn open_or_make_file<R: Files>(rt: &R, path: &str) -> io::Result<R::File> {
     let file = File::options()
         .read(true)
@@ -71,27 +73,27 @@ fn open_or_make_file<R: Files>(rt: &R, path: &str) -> io::Result<R::File> {
     }
 }
 
-/// Reads all bytes from a file's position to its end.
+/// Reads all bytes from the file's position to its end.
 fn read_bytes<F: Read>(alloc: Global, file: &mut F) -> io::Result<Vec<u8>> {
     let mut held = Vec::new(alloc);
     file.read_to_end(&mut held)?;
     Ok(held)
 }
 
-/// A file that can be locked: by one process at a time, until it is closed or the process ends.
+/// A file that one process at a time can lock, until it closes the file or ends.
 pub trait Lockable {
-    /// Locks the file for this process alone, without waiting; `InUse` where another has it.
+    /// Locks the file for this process alone, without waiting. `Err(InUse)` where another process has it locked.
     fn lock_for_one(&self) -> Result<(), OpenFault>;
 }
 
 impl Lockable for File {
-    /// Locks the file for this process alone, without waiting; `InUse` where another has it, `CannotRead` where it
-    /// can't be.
+    /// Locks the file for this process alone, without waiting. `Err(InUse)` where another process has it locked,
+    /// `CannotRead` where the system refuses.
     fn lock_for_one(&self) -> Result<(), OpenFault> {
         match self.try_lock() {
             Ok(()) => Ok(()),
             Err(TryLockError::WouldBlock) => Err(OpenFault::InUse),
-            Err(TryLockError::Error(error)) => Err(fault_of(&error)),
+            Err(TryLockError::Error(error)) => Err(open_fault_of(&error)),
         }
     }
 }
@@ -106,8 +108,8 @@ where
 
     ghost journal = { λ _ _. None };
 
-    /// Opens the file at a path, or makes it, locks it, and reads its bytes; `InUse` where another process has it
-    /// locked.
+    /// Opens the file at a path, or makes it, locks it, and reads its bytes. `Err(InUse)` where another process has it
+    /// locked, `CannotRead` where it isn't a regular file or a call fails.
     fn open_journal(
         &self,
         alloc: Global,
@@ -115,7 +117,7 @@ where
     ) -> Result<OpenJournal<Output<R::File>>, OpenFault> {
         let mut file = match open_or_make_file(self.rt, path) {
             Ok(file) => file,
-            Err(error) => return Err(fault_of(&error)),
+            Err(error) => return Err(open_fault_of(&error)),
         };
         file.lock_for_one()?;
         match read_bytes(alloc, &mut file) {
@@ -123,7 +125,7 @@ where
                 held,
                 device: Output::new(file),
             }),
-            Err(error) => Err(fault_of(&error)),
+            Err(error) => Err(open_fault_of(&error)),
         }
     }
 }

@@ -7,35 +7,35 @@ use std::os::unix::fs::PermissionsExt;
 use std::rt::{Env, Files};
 use std::{env, fs};
 
-/// Where launchers are, by their paths.
+/// Tells which launchers can be started.
 pub trait Launchers {
     ghost use Rattle.std.specs.Prelude.{ℕ, Bool, List, Option};
 
     /// Whether a path's program can be started, where that is told.
     ghost startable: { Self → List ℕ → Option Bool };
 
-    /// Whether the program at a path can be started. It is not started.
+    /// Whether the program at a path can be started. Doesn't start it.
     fn can_start(&self, path: &str) -> bool
         ensures { IfSome (startable self.now path.now) (λ told. result ≡ told) };
 }
 
-/// Whether a regular file that somebody may execute is at a path; false where the system doesn't tell.
+/// Whether a regular file that somebody may execute is at a path; false where the system doesn't say.
 fn is_program<R: Files>(rt: &R, path: &str) -> bool {
     match fs::metadata(rt, path) {
-        Ok(there) => there.is_file() && there.permissions().mode() & 0o111 != 0,
+        Ok(metadata) => metadata.is_file() && metadata.permissions().mode() & 0o111 != 0,
         Err(_) => false,
     }
 }
 
-/// A name without `/` is looked for in the folders of `PATH`, an empty one of which is the current folder. Where
-/// these can't be told, or memory is wanting, the system is left to look.
+/// Looks for a name without `/` in the folders of `PATH`, as `execvp` does. Where `PATH` can't be read or memory runs
+/// out, calls it startable: starting it will tell.
 impl<'a, R: Files + Env + Alloc> Launchers for Disk<'a, R> {
     ghost use Rattle.std.specs.Prelude.{None};
 
     ghost startable = { λ _ _. None };
 
-    /// Whether the program can be started: at a path, or, for a bare name, in a folder of `PATH`. True also where
-    /// `PATH` isn't set or memory is wanting. It is not started.
+    /// Whether the program is at a path with a `/`, or under a bare name in a folder of `PATH`, where an empty folder
+    /// is the current one. True also where `PATH` can't be read or memory runs out. Doesn't start it.
     fn can_start(&self, path: &str) -> bool {
         if path.is_empty() || path.contains('/') {
             return is_program(self.rt, path);

@@ -11,31 +11,30 @@ use std::io::{ErrorKind, Write};
 use std::os::unix::fs::{OpenOptionsExt, PermissionsExt};
 use std::rt::Files;
 
-/// How many names are looked at for a new file. One that is taken is that of a backfill that writes its report, or
-/// was killed then.
+/// How many names are tried for a new file. One is taken while another backfill writes its report, or where one was
+/// killed meanwhile.
 const MOST_NEW_FILES: u32 = 1_000;
 
-/// A file on the disk, and its name.
+/// A file on the disk, and its path.
 #[derive(Drop)]
 struct Made<F: Drop> {
     file: F,
     name: String,
 }
 
-/// A new file, which is made when something is written to it: so nothing is left where a backfill is killed while its
-/// tries run.
+/// A new file, made only at its first write. So a backfill that is killed while its tries run leaves no file behind.
 #[derive(Drop)]
 pub struct NewFile<'a, R: Files> {
     rt: &'a R,
     alloc: Global,
-    /// The path beside which it is made.
+    /// The path of the file to be replaced.
     target: String,
     made: Option<Made<R::File>>,
     failed: bool,
 }
 
-/// The path of the file that is to be replaced, links followed; a path without a file is itself. `CannotReplace`
-/// where a folder or a device is there, or the system can't tell.
+/// Answers the path of the file to be replaced, links followed; a path without a file is itself. `Err` where it is a
+/// folder, a device, a broken link or empty, the system refuses, or memory runs out.
 fn target_of<R: Files>(rt: &R, alloc: Global, path: &str) -> Result<String, ReplaceFault> {
     let found = match fs::symlink_metadata(rt, path) {
         Ok(found) => found,
@@ -55,7 +54,7 @@ fn target_of<R: Files>(rt: &R, alloc: Global, path: &str) -> Result<String, Repl
     }
 }
 
-/// The permissions of the file at the path `target`; None where there is no file.
+/// The permissions of the file at the path `target`; None where there is no file. `Err` where the system refuses.
 fn old_permissions<R: Files>(rt: &R, target: &str) -> Result<Option<Permissions>, ReplaceFault> {
     match fs::metadata(rt, target) {
         Ok(found) => Ok(Some(found.permissions())),
@@ -64,8 +63,8 @@ fn old_permissions<R: Files>(rt: &R, target: &str) -> Result<Option<Permissions>
     }
 }
 
-/// How a new file is opened: only where no file has its name, and from the start with the permissions of the old
-/// file, if there is one, so that at no moment more may read it.
+/// How to open a new file: only where no file has its name, and with no more permissions than the old file, if there is
+/// one, so that nobody may read it who couldn't read that.
 fn options_of(old: &Option<Permissions>) -> OpenOptions {
     let mut options = File::options();
     options.write(true).create_new(true);
@@ -75,8 +74,8 @@ fn options_of(old: &Option<Permissions>) -> OpenOptions {
     options
 }
 
-/// Gives a new file all permissions of the old one, of which the system took some away; nothing where there was no
-/// old one. Where that fails, the new file is removed.
+/// Gives a new file all permissions of the old one, some of which the system's umask took away; leaves it alone where
+/// there was no old one. At `Err` the new file is removed.
 fn give_permissions<R: Files>(
     rt: &R,
     made: Made<R::File>,
@@ -94,8 +93,8 @@ fn give_permissions<R: Files>(
     }
 }
 
-/// Makes a file beside the one at `target`, with that one's permissions, under the first name `.new1`, `.new2` ..
-/// that no file has; `CannotReplace` where 1,000 names are taken.
+/// Makes a file beside `target`, with the permissions of the one there, under the first name `.new1`, `.new2` .. that
+/// is free. `Err` where 1,000 names are taken, the system refuses, or memory runs out.
 fn make_beside<R: Files>(
     rt: &R,
     alloc: Global,
@@ -114,14 +113,14 @@ fn make_beside<R: Files>(
     Err(ReplaceFault::CannotReplace)
 }
 
-/// Removes a new file from the disk. Where that fails, nobody is told.
+/// Removes a new file from the disk. Ignores a failure.
 fn remove_made<R: Files>(rt: &R, made: &Made<R::File>) {
     // Where it can't be taken away, nothing is left to say so on.
     let _ = fs::remove_file(rt, made.name.as_str());
 }
 
-/// Writes a first part of the bytes to a file, at least one where there is one, and gives its length. It goes on
-/// after up to 1,000 interruptions; to take nothing is a fault.
+/// Writes a first part of the bytes, at least one if there is any, and answers its length. `Err` where the file takes
+/// none, a write fails, or at the 1,001st interruption.
 fn write_some<F: Write>(file: &mut F, bytes: &[u8]) -> Result<usize, ReplaceFault>
     ensures bound { IfOk result (λ n. n ≤ length bytes.now) }
     ensures some { IfOk result (λ n. bytes.now ≢ [] → n ≢ 0) }
@@ -138,7 +137,7 @@ fn write_some<F: Write>(file: &mut F, bytes: &[u8]) -> Result<usize, ReplaceFaul
 }
 
 impl<'a, R: Files> NewFile<'a, R> {
-    /// Makes the new file on the disk, if it isn't there yet.
+    /// Makes the new file on the disk, unless it is there already. `Err` where it can't be made, or at want of memory.
     fn make(&mut self) -> Result<(), ReplaceFault>
         ensures { self.new.failed ≡ self.old.failed }
     {
@@ -148,7 +147,8 @@ impl<'a, R: Files> NewFile<'a, R> {
         Ok(())
     }
 
-    /// Makes the new file if it isn't there yet, writes a first part of the bytes to it, and gives the part's length.
+    /// Makes the new file, unless it is there already, writes a first part of the bytes, at least one if there is any,
+    /// and answers its length. `Err` where either fails.
     fn write_made(&mut self, bytes: &[u8]) -> Result<usize, ReplaceFault>
         ensures bound { IfOk result (λ n. n ≤ length bytes.now) }
         ensures some { IfOk result (λ n. bytes.now ≢ [] → n ≢ 0) }
@@ -161,7 +161,7 @@ impl<'a, R: Files> NewFile<'a, R> {
         }
     }
 
-    /// Makes the new file if it isn't there yet, and syncs it to the disk.
+    /// Makes the new file, unless it is there already, and syncs it to the disk. `Err` where either fails.
     fn sync_made(&mut self) -> Result<(), ReplaceFault>
         ensures { self.new.failed ≡ self.old.failed }
     {
@@ -181,14 +181,15 @@ impl<'a, R: Files> Replacement for NewFile<'a, R> {
 
     ghost failed = { λ n. has_failed n };
 
-    /// Writes a first part of the bytes to the new file, which it makes at first, and notes a failure.
+    /// Writes a first part of the bytes to the new file, made if need be, and answers its length. `Err` where that
+    /// fails; the failure is kept in `failed`.
     fn write(&mut self, bytes: &[u8]) -> Result<usize, ReplaceFault> {
         let written = self.write_made(bytes);
         self.failed = self.failed || written.is_err();
         written
     }
 
-    /// Syncs the new file to the disk, and notes a failure.
+    /// Syncs the new file to the disk. `Err` where that fails; the failure is kept in `failed`.
     fn sync(&mut self) -> Result<(), ReplaceFault> {
         let synced = self.sync_made();
         self.failed = self.failed || synced.is_err();
@@ -196,8 +197,8 @@ impl<'a, R: Files> Replacement for NewFile<'a, R> {
     }
 }
 
-/// Makes a new file beside the one at a path and removes it again, to see whether it can be made. Gives the path's
-/// target and the new file, to be made at its first write.
+/// Makes a new file beside the one at a path and removes it again, to see that it can be made. Answers the path with
+/// its file, and the new file that is made at its first write. `Err` where either fails, or at want of memory.
 fn try_begin<'a, R: Files>(
     rt: &'a R,
     alloc: Global,
@@ -219,8 +220,8 @@ fn try_begin<'a, R: Files>(
     Ok((Target { path, file }, new))
 }
 
-/// Renames a new file to the path `file` that it replaces; `CannotReplace` where it was never made. Where the rename
-/// fails, the new file is removed.
+/// Renames a new file to the path `file` that it replaces. `Err` where it was never made, or the rename fails; the new
+/// file is removed then.
 fn rename_made<R: Files>(new: &NewFile<'_, R>, file: &str) -> Result<(), ReplaceFault> {
     let Some(made) = &new.made else {
         return Err(ReplaceFault::CannotReplace);
@@ -246,8 +247,8 @@ impl<'a, R: Files> Folder for Disk<'a, R> {
 
     ghost failed = { λ d. has_failed_on d };
 
-    /// Sees whether a file beside the one at a path can be made, by making and removing one, and remembers the path
-    /// for `rename`. A failure is noted.
+    /// Sees that a file beside the one at a path can be made, by making and removing one, and remembers the path for
+    /// `rename`. `Err` where that fails; the failure is kept in `failed`.
     fn begin_replacement(
         &mut self,
         alloc: Global,
@@ -265,8 +266,8 @@ impl<'a, R: Files> Folder for Disk<'a, R> {
         }
     }
 
-    /// Renames the new file to the target of the path last begun, and notes a failure; `CannotReplace` where none was
-    /// begun.
+    /// Renames the new file to the file of the path last begun. `Err` where none was begun or the rename fails; the
+    /// failure is kept in `failed`.
     fn rename(&mut self, new: NewFile<'a, R>) -> Result<(), ReplaceFault> {
         let renamed = match &self.target {
             Some(target) => rename_made(&new, target.file.as_str()),
@@ -276,7 +277,7 @@ impl<'a, R: Files> Folder for Disk<'a, R> {
         renamed
     }
 
-    /// Removes the new file from the disk, if it was made.
+    /// Removes the new file from the disk, if it was made, and keeps in `failed` whether a call of it failed.
     fn discard(&mut self, new: NewFile<'a, R>) {
         if let Some(made) = &new.made {
             remove_made(self.rt, made);

@@ -7,11 +7,11 @@ use crate::source::{Source, SourceFault};
 use bf_device::{Halt, MOST_INTERRUPTIONS, Read};
 use std::alloc::Global;
 
-/// How many bytes one read may give.
+/// How many bytes are asked for in one read, at most.
 const CHUNK: usize = 8_192;
 
-/// Reads the first `count` bytes of the file at a path of `files`, or all of them where it has fewer; `CannotRead`
-/// where it can't be opened or read.
+/// Reads the first `count` bytes of the file at a path, or all where it has fewer. `Err` where it can't be opened or
+/// read, or at want of memory.
 pub fn read_first_bytes<S: Source>(
     alloc: Global,
     path: &str,
@@ -26,8 +26,8 @@ pub fn read_first_bytes<S: Source>(
     read_front(alloc, &mut device, count)
 }
 
-/// Reads up to `count` bytes off a device, in as many reads as it takes; fewer only at its end. It gives up with
-/// `CannotRead` where a read fails, and at the 1,001st interruption.
+/// Reads up to `count` bytes off a device, in as many reads as it takes; fewer only where it ends. `Err(CannotRead)`
+/// where a read fails or at the 1,001st interruption, or want of memory.
 fn read_front<R: Read>(alloc: Global, device: &mut R, count: usize) -> Result<Vec<u8>, SourceFault>
     ensures bound { IfOk result (λ bytes. vec_len bytes ≤ count) }
     ensures first { IfOk result (λ bytes.

@@ -5,11 +5,12 @@ ghost use Rattle.bf_disk.specs.Source.{NeverHalts, Opens};
 use bf_device::Read;
 use std::alloc::AllocError;
 
-/// Why a file's bytes aren't there.
+/// Why a file's bytes can't be had.
 #[derive(Clone, Copy, Debug, PartialEq, Eq)]
 pub enum SourceFault {
     /// There is no such file, it may not be read, or a read of it failed.
     CannotRead,
+    /// Memory ran out.
     OutOfMemory,
 }
 
@@ -18,21 +19,22 @@ impl From<AllocError> for SourceFault {
 
     ghost from_gives = { λ _ e. e ≡ OutOfMemory };
 
+    /// Gives `OutOfMemory`.
     fn from(_e: AllocError) -> SourceFault {
         SourceFault::OutOfMemory
     }
 }
 
-/// What files are read from.
+/// Where files are read from, by their paths.
 pub trait Source {
-    /// What a file that was opened is read by.
+    /// What an open file is read by.
     type Device: Read + Drop;
 
     /// What a path's file holds, where the source tells it: its bytes, or `None` where it can't be read.
     ghost file: { Self → List ℕ → Option (Option (List ℕ)) };
 
-    /// Opens a path's file, `CannotRead` where it can't be. Its device has all bytes of the file before it, and where
-    /// the source tells them it never halts.
+    /// Opens the file at a path. Where the source tells what files hold, the device gives just these bytes and never
+    /// halts. `Err` where the file can't be opened, or at want of memory.
     fn open(&mut self, path: &str) -> Result<Self::Device, SourceFault>
         ensures opens { IfSome (file self.old path.now) (λ held.
             Opens Self.Device.left held result) }

@@ -10,16 +10,15 @@ use bf_value::OutOfMemory;
 use std::alloc::Global;
 use std::marker::Model;
 
-/// A file in memory: its path, and what it holds.
+/// A file in memory: its path, and its bytes.
 #[derive(Drop)]
 struct StoredFile {
     path: String,
     bytes: Vec<u8>,
 }
 
-/// Files in memory, which tell what they hold: that a source can do so and keep the clauses of `Source` is proved of
-/// them. Contracts see the list of paths and contents; of two files with one path the first is read, and a path
-/// without a file can't be read.
+/// Files in memory, by which the clauses of `Source` are proved to be possible. Contracts see the list of paths and
+/// bytes. Of two files with one path the first is read.
 #[derive(Drop)]
 pub struct StoredFiles {
     alloc: Global,
@@ -37,7 +36,7 @@ impl Model for StoredFiles {
 }
 
 impl StoredFiles {
-    /// A source in memory that has no files.
+    /// Makes a source in memory that has no files.
     pub fn new(alloc: Global) -> Self
         ensures { result ≡ [] }
     {
@@ -47,7 +46,8 @@ impl StoredFiles {
         }
     }
 
-    /// Adds a file with these bytes at the end of the list. It isn't read where an earlier one has its path.
+    /// Adds a file at the end of the list; it isn't read where an earlier one has its path. At `Err` the list stays as
+    /// it was.
     pub fn add(&mut self, path: &str, bytes: &[u8]) -> Result<(), OutOfMemory>
         ensures ok { OnOk result (self.new ≡ self.old ++ (path.now, bytes.now) ∷ []) }
         ensures err { OnErr result (self.new ≡ self.old) }
@@ -69,7 +69,8 @@ impl Source for StoredFiles {
 
     ghost file = { λ s path. Some (file_in s path) };
 
-    /// A device with the bytes of the first file of this path; CannotRead where there is none.
+    /// Gives a device with the bytes of the first file with this path. `Err(CannotRead)` where there is none, or want
+    /// of memory.
     fn open(&mut self, path: &str) -> Result<Bytes, SourceFault> {
         let Some(bytes) = bytes_at(&self.files, path) else {
             return Err(SourceFault::CannotRead);
@@ -78,7 +79,7 @@ impl Source for StoredFiles {
     }
 }
 
-/// The bytes of the first file of this path; None where there is none.
+/// The bytes of the first file with this path; None where there is none.
 #[tactic(auto, using(crate::proofs::FoundFiles::found_bytes))]
 fn bytes_at<'a>(files: &'a [StoredFile], path: &str) -> Option<&'a [u8]>
     ensures { option_map (λ b. b.now) result ≡ file_in (map seen files.entry.now) path.now }
@@ -87,7 +88,7 @@ fn bytes_at<'a>(files: &'a [StoredFile], path: &str) -> Option<&'a [u8]>
     Some(file.bytes.as_slice())
 }
 
-/// The first file of this path; None where there is none.
+/// The first file with this path; None where there is none.
 fn file_at<'a>(files: &'a [StoredFile], path: &str) -> Option<&'a StoredFile>
     ensures { option_copied result
         ≡ find (λ f. bytes_eq (string_bytes f.path) path.now) files.entry.now }

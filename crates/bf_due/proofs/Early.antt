@@ -16,7 +16,7 @@ use Rattle.bf_core.proofs.Instances.{instance_here}
 use Rattle.bf_core.proofs.Reading.{put_cases}
 use Rattle.bf_due.specs.declared.news.News.{News}
 use Rattle.bf_due.specs.Stirring.{all_settled, decided_at, ended_at, finished_in, heard_of_cell, heard_of_instance, is_settled, rule_looks_for_in}
-use Rattle.bf_due.specs.inner.Stirring.{is_past_known_in, looks_beyond_in, may_let_be_decided_in}
+use Rattle.bf_due.specs.inner.Stirring.{is_past_known_in, may_let_early_in, waits_for_in}
 use Rattle.bf_due.proofs.Locality.{RulesAlike, Touches, seen_kept, touches?}
 use Rattle.bf_due.proofs.Reached.{settled_stays}
 
@@ -232,30 +232,27 @@ module _ (dag : Dag) (limits : Limits) (s : State) (e : Event) (able : IsEnabled
     | inl all ↦ absurd (both_ways _ h (all_kept k us all))
   ]
 
-  module _ (n : News) (told : IsTold dag s e n) (t : ℕ) (unmoved : may_let_be_decided_in dag (after dag s e) n t ≡ false) where
+  module _ (n : News) (told : IsTold dag s e n) (t : ℕ) (free : waits_for_in dag n.task t ≡ false) (unmoved : may_let_early_in dag (after dag s e) n t ≡ false) where
     now : ℕ → Seen
     now v = seen_in (cell_at (after dag s e) n.run v)
 
     was : ℕ → Seen
     was v = seen_in (cell_at s n.run v)
 
-    beyond : looks_beyond_in dag n.task t ≡ false
-    beyond = (or_parts _ _ unmoved).0
+    single : is_some (task_of dag t).expand ≡ false
+    single = (or_parts _ _ unmoved).0
 
     quiet_or_unaware : (rule_looks_for_in (task_of dag t).rule n.counts ≡ false) ⊎ (is_past_known_in dag (after dag s e) n.run t ≡ false)
-    quiet_or_unaware = and_cases (rule_looks_for_in (task_of dag t).rule n.counts) (is_past_known_in dag (after dag s e) n.run t) (or_parts _ _ (or_parts (looks_beyond_in dag n.task t) _ unmoved).1).0
+    quiet_or_unaware = and_cases (rule_looks_for_in (task_of dag t).rule n.counts) (is_past_known_in dag (after dag s e) n.run t) (or_parts _ _ (or_parts (is_some (task_of dag t).expand) _ unmoved).1).0
 
     some_open : all_settled dag (after dag s e) n.run t ≡ false
-    some_open = (or_parts (rule_looks_for_in (task_of dag t).rule n.counts && is_past_known_in dag (after dag s e) n.run t) _ (or_parts (looks_beyond_in dag n.task t) _ unmoved).1).1
+    some_open = (or_parts (rule_looks_for_in (task_of dag t).rule n.counts && is_past_known_in dag (after dag s e) n.run t) _ (or_parts (is_some (task_of dag t).expand) _ unmoved).1).1
 
     early : is_waiting (task_of dag t).rule ≡ false
-    early = (or_parts _ _ beyond).0
-
-    single : is_some (task_of dag t).expand ≡ false
-    single = (or_parts _ _ (or_parts (is_waiting (task_of dag t).rule) _ beyond).1).0
+    early = (or_parts _ _ free).0
 
     plain : is_branch_in (task_of dag n.task) ≡ false
-    plain = (or_parts (is_some (task_of dag t).expand) _ (or_parts (is_waiting (task_of dag t).rule) _ beyond).1).1
+    plain = (or_parts (is_waiting (task_of dag t).rule) _ free).1
 
     differs : (v : ℕ) → (v ≡ n.task) ⊎ (now v ≡ was v)
     unfolding now was

@@ -1,14 +1,14 @@
 -- Which steps an event may make possible.
-use Rattle.std.proofs.Common.{◌≡◌, ◌⊎◌, ℕ, zero, suc, Bool, true, false, List, Option, None, Some, is_some, Contains, refl, sym, ap, ◌∙◌, subst, subst₂, inl, inr, arith}
+use Rattle.std.proofs.Common.{◌≡◌, ◌⊎◌, ℕ, zero, suc, Bool, true, false, not, ◌&&◌, ◌||◌, List, Option, None, Some, is_some, refl, sym, ap, ◌∙◌, subst, subst₂, inl, inr, arith}
 use Rattle.std.proofs.lemmas.Bool.{both_ways, cases_Bool}
-use Rattle.bf_plan.proofs.PlanLemmas.{contains_one, upstreams_of_task}
-use Rattle.bf_core.specs.Terms.{Dag, Limits, IsSound, TaskValue, task_of}
+use Rattle.bf_plan.proofs.PlanLemmas.{is_upstream}
+use Rattle.bf_core.specs.Terms.{Dag, Limits, IsOneOf, IsSound, TaskValue, task_of, is_branch_in, is_waiting}
 use Rattle.bf_core.specs.declared.state.State.{State}
 use Rattle.bf_core.specs.declared.state.RunPhase.{RunPhase}
 use Rattle.bf_core.specs.declared.state.Cell.{Cell}
 use Rattle.bf_core.specs.declared.event.Event.{Event}
-use Rattle.bf_core.specs.Deciding.{Seen}
-use Rattle.bf_core.specs.Events.{after, before_in, cell_at, goes_on_in, value_in, next_run, phase_of, put, with_phase, IsDecidable, IsEnabled}
+use Rattle.bf_core.specs.Deciding.{Seen, lets_decide_in}
+use Rattle.bf_core.specs.Events.{after, before_in, cell_at, goes_on_in, seen_in, value_in, next_run, phase_of, put, with_phase, IsDecidable, IsEnabled}
 use Rattle.bf_core.specs.Cores.{Backfill, IsReplay, MayCome, moved}
 use Rattle.bf_core.proofs.Shape.{IsShaped, open_run_exists, phase_there, length_put}
 use Rattle.bf_core.proofs.Kept.{replay_shaped}
@@ -19,9 +19,9 @@ use Rattle.bf_due.specs.declared.agenda.Turn.{Turn}
 use Rattle.bf_due.specs.Agendas.{event_of}
 use Rattle.bf_due.specs.declared.news.News.{News}
 use Rattle.bf_due.specs.Stirring.{decided_at, ended_at, is_settled}
-use Rattle.bf_due.specs.inner.Stirring.{may_let_be_decided_in}
+use Rattle.bf_due.specs.inner.Stirring.{may_let_be_decided_in, may_let_early_in, waits_for_in}
 use Rattle.bf_due.specs.inner.Dues.{Concerns, Hears, IsBehindNews, IsBelowNews, newest}
-use Rattle.bf_due.proofs.Locality.{LooksAlike, PastTouched, RulesAlike, Touches, Turns, decidable_alike, goes_on_alike, past_kept, phase_kept, rules_alike, seen_kept, touches?, turns?, undecided_back}
+use Rattle.bf_due.proofs.Locality.{LooksAlike, PastTouched, RulesAlike, Touches, Turns, decidable_alike, goes_on_alike, past_kept, phase_kept, rules_alike, seen_kept, touches?, turns?, undecided_back, awaits_upstream}
 use Rattle.bf_due.proofs.Reached.{settled_stays}
 use Rattle.bf_due.proofs.Early.{IsTold, told_end, told_expand, told_settle, unmoved_rules}
 
@@ -49,14 +49,46 @@ module _ (dag : Dag) (sound : IsSound dag) (limits : Limits) (s : State) (e : Ev
       none_alike (Some v) b h g = cc
 
   module _ (n : News) (told : IsTold dag s e n) where
+    -- a task isn't decided that waits for the one of the news, which isn't settled
+    waits_on : (t : ℕ) → IsOneOf (task_of dag t).upstreams n.task → waits_for_in dag n.task t ≡ true → is_settled (after dag s e) n.run n.task ≡ false → IsDecidable dag (after dag s e) n.run t → ⊥
+    waits_on t upstream waits unsettled = awaits_upstream dag (after dag s e) n.run t n.task upstream awaited
+      where
+        held : (a b : Bool) → (a || b) ≡ true → (not a && not b) ≡ false
+        held true b h = refl
+        held false true h = refl
+        held false false h = cc
+
+        awaited : lets_decide_in dag (task_of dag t) (λ v. seen_in (cell_at (after dag s e) n.run v)) n.task ≡ false
+        awaited = ap (λ b. b || (not (is_waiting (task_of dag t).rule) && not (is_branch_in (task_of dag n.task)))) unsettled ∙ held (is_waiting (task_of dag t).rule) (is_branch_in (task_of dag n.task)) waits
+
+    by_settled : (t : ℕ) → IsOneOf (task_of dag t).upstreams n.task → waits_for_in dag n.task t ≡ true → IsDecidable dag (after dag s e) n.run t → may_let_be_decided_in dag (after dag s e) n t ≡ true
+    by_settled t upstream waits due = elim (cases_Bool (is_settled (after dag s e) n.run n.task)) [
+      | inl holds ↦ rw (waits, holds)
+      | inr fails ↦ absurd (waits_on t upstream waits fails due)
+    ]
+
+    moved_or : (t : ℕ) → IsOneOf (task_of dag t).upstreams n.task → IsDecidable dag (after dag s e) n.run t → RulesAlike dag (after dag s e) s n.run t ⊎ (may_let_be_decided_in dag (after dag s e) n t ≡ true)
+    moved_or t upstream due = elim (cases_Bool (waits_for_in dag n.task t)) [
+      | inl waits ↦ inr (by_settled t upstream waits due)
+      | inr free ↦ elim (cases_Bool (may_let_early_in dag (after dag s e) n t)) [
+        | inl holds ↦ inr (rw (free, holds))
+        | inr fails ↦ inl (unmoved_rules dag limits s e able n told t free fails due)
+      ]
+    ]
+
     rules_or : (k t : ℕ) → IsDecidable dag (after dag s e) k t → RulesAlike dag (after dag s e) s k t ⊎ IsBelowNews dag (after dag s e) n k t
     rules_or k t due = elim (rules_alike dag sound limits s e able k t) [
       | inl alike ↦ inl alike
-      | inr w ↦ elim (cases_Bool (may_let_be_decided_in dag (after dag s e) n t)) [
-        | inl holds ↦ inr ((told.only k w.0 w.2).0, subst₂ (λ (us : List ℕ) (v : ℕ). Contains us v) (upstreams_of_task dag t) (told.only k w.0 w.2).1 (contains_one (task_of dag t).upstreams w.0 w.1), holds)
-        | inr fails ↦ inl (subst (λ (j : ℕ). RulesAlike dag (after dag s e) s j t) (sym (told.only k w.0 w.2).0) (unmoved_rules dag limits s e able n told t fails (subst (λ (j : ℕ). IsDecidable dag (after dag s e) j t) (told.only k w.0 w.2).0 due)))
-      ]
+      | inr w ↦ moved (told.only k w.0 w.2) w.1
     ]
+      where
+        moved : {v : ℕ} → (k ≡ n.run) × (v ≡ n.task) → IsOneOf (task_of dag t).upstreams v → RulesAlike dag (after dag s e) s k t ⊎ IsBelowNews dag (after dag s e) n k t
+        moved {v} here one =
+            let upstream : IsOneOf (task_of dag t).upstreams n.task = subst (λ (u : ℕ). IsOneOf (task_of dag t).upstreams u) here.1 one in
+            elim (moved_or t upstream (subst (λ (j : ℕ). IsDecidable dag (after dag s e) j t) here.0 due)) [
+              | inl alike ↦ inl (subst (λ (j : ℕ). RulesAlike dag (after dag s e) s j t) (sym here.0) alike)
+              | inr holds ↦ inr (here.0, is_upstream dag t n.task upstream, holds)
+            ]
 
     past_or : (k t : ℕ) → (before_in (after dag s e) k t ≡ before_in s k t) ⊎ IsBehindNews (after dag s e) n k t
     past_or zero t = inl refl

@@ -10,7 +10,7 @@ use std::cmp::Reverse;
 use std::collections::BinaryHeap;
 use std::marker::Model;
 
-/// A task in a run. Turns go by run, by the task's rank, and in the order of the file.
+/// A task in a run. Turns are ordered by run, by the task's rank, and then as the tasks stand in the file.
 #[derive(Clone, Copy, Debug, PartialEq, Eq, PartialOrd, Ord)]
 pub struct Turn {
     pub run: u32,
@@ -18,7 +18,7 @@ pub struct Turn {
     pub task: u32,
 }
 
-/// An event that comes by itself. Steps go by kind, in the order of these variants, and then by turn.
+/// An event that comes by itself. Steps are ordered by kind, as these variants are, and then by run or turn.
 #[derive(Clone, Copy, Debug, PartialEq, Eq, PartialOrd, Ord)]
 pub enum Step {
     Close { run: u32 },
@@ -28,7 +28,7 @@ pub enum Step {
 }
 
 impl Step {
-    /// The event that the step is.
+    /// The event of this step.
     pub fn event(self) -> Event
         ensures { result ≡ event_of self }
     {
@@ -82,7 +82,7 @@ impl Agenda {
         }
     }
 
-    /// Makes room for so many steps more.
+    /// Makes room for so many steps more. The steps stay as they are, at `Err` too.
     pub fn make_room(&mut self, steps: usize) -> Result<(), OutOfMemory>
         ensures items { self.new.items ≡ self.old.items }
         ensures room { OnOk result (length self.new.items + steps ≤ self.new.room) }
@@ -91,7 +91,7 @@ impl Agenda {
         Ok(())
     }
 
-    /// The first step, if there is one.
+    /// The first step; None where there is none.
     pub fn first(&self) -> Option<Step>
         ensures top { result ≡ slice_get self.now.items 0 }
         ensures some { IfSome result (λ x. Contains self.now.items x) }

@@ -10,7 +10,7 @@ ghost use Rattle.bf_due.specs.Agendas.{event_of};
 ghost use Rattle.bf_due.specs.Dues.{HasAdded, HasRoom, IsDueStep};
 ghost use Rattle.bf_due.specs.inner.Dues.{Asks, AsksAll, Concerns, IsAround, IsBelow, IsPruned, IsCloseOf, IsOfFirst, IsOfRun, IsOfTask, IsOpening, IsStirred, IsUnder, SpeaksOfTask, newest};
 ghost use Rattle.bf_due.specs.Cursors.{IsNoted};
-ghost use Rattle.bf_due.specs.inner.Stirring.{is_past_known_in, looks_beyond_in, may_let_be_decided_in};
+ghost use Rattle.bf_due.specs.inner.Stirring.{is_past_known_in, may_let_be_decided_in, waits_for_in};
 
 use crate::agenda::{Agenda, Step, Turn};
 use crate::cursors::Cursors;
@@ -127,15 +127,14 @@ fn add_decision_if_unawaited(
     }
 }
 
-/// Whether a task looks at more of its upstream than how the upstream's instances finish: its rule waits until the
-/// upstream is settled, it is expanded, or the upstream is a branch.
-fn looks_beyond(core: &Core<'_>, upstream: u32, task: u32) -> bool
+/// Whether a task, directly below this upstream, waits until the upstream is settled: its rule does, or the upstream is
+/// a branch.
+fn waits_for(core: &Core<'_>, upstream: u32, task: u32) -> bool
     requires { task < length core.now.dag.tasks }
-    ensures { result ≡ looks_beyond_in core.now.dag upstream task }
+    ensures { result ≡ waits_for_in core.now.dag upstream task }
 {
     let dag = core.plan().dag();
-    let task = dag.task(task);
-    task.rule.waits_until_settled() || task.expand.is_some() || dag.is_branch(upstream)
+    dag.task(task).rule.waits_until_settled() || dag.is_branch(upstream)
 }
 
 /// Whether a task needn't wait for the run before: it doesn't depend on its past, this is the first run, or it is
@@ -158,10 +157,14 @@ fn may_let_be_decided(row: &mut Cursors, core: &Core<'_>, news: News, task: u32)
         → may_let_be_decided_in core.now.dag core.now.state news task ≡ false }
     ensures reached { IsNoted core.now news.run row.old → IsNoted core.now news.run row.new }
 {
-    if looks_beyond(core, news.task, task) {
+    if waits_for(core, news.task, task) {
+        return row.is_settled(core, news.run, news.task);
+    }
+    let dag = core.plan().dag();
+    if dag.task(task).expand.is_some() {
         return true;
     }
-    let rule = core.plan().dag().task(task).rule;
+    let rule = dag.task(task).rule;
     if rule_looks_for(rule, news.counts) && is_past_known(core, news.run, task) {
         return true;
     }

@@ -13,7 +13,7 @@ use bf_core::{Cell, Core, Instance, Phase};
 use bf_value::OutOfMemory;
 use std::alloc::Global;
 
-/// What is known of how far a run has come. Where a list is too short, nothing is known of a task.
+/// How far a run is known to have come. Nothing is known of a task for which a list is too short.
 #[derive(Drop)]
 pub struct Cursors {
     /// For each task, how many of its upstreams let it be decided, from the first on.
@@ -36,15 +36,15 @@ fn number_at(numbers: &[u32], at: u32) -> u32
     }
 }
 
-/// Whether the last try of an instance has ended.
+/// Whether an instance in this phase is finished: its last try has ended.
 fn is_finished(phase: &Phase) -> bool
     ensures { IsTrue result ↔ IsFinished phase.now }
 {
     matches!(phase, Phase::Finished(_))
 }
 
-/// The place, from 0, of the first instance that hasn't finished, of those from the place `from` on; where all of
-/// these have, the number of instances.
+/// The place, from 0, of the first unfinished instance, looking from the place `from` on; the number of instances where
+/// none is unfinished there.
 fn first_unfinished(instances: &[Instance], from: usize) -> usize
     ensures finished { AreFinished (Cell.Ran instances.now) from
         → AreFinished (Cell.Ran instances.now) result }
@@ -71,7 +71,7 @@ fn instances_of<'c>(core: &'c Core<'_>, run: u32, task: u32) -> Option<&'c [Inst
     }
 }
 
-/// The upstreams of a task by its number.
+/// The upstreams of a task, in the order of the plan.
 fn upstreams_of<'a>(core: &Core<'a>, task: u32) -> &'a [u32]
     requires { task < length core.now.dag.tasks }
     ensures upstreams { result.now ≡ (task_of core.now.dag task).upstreams }
@@ -80,7 +80,7 @@ fn upstreams_of<'a>(core: &Core<'a>, task: u32) -> &'a [u32]
     core.plan().dag().task(task).upstreams.as_slice()
 }
 
-/// Whether a task may be decided before all its upstreams are settled, by its rule.
+/// Whether a task's rule may decide it before all its upstreams are settled.
 fn has_early_rule(core: &Core<'_>, task: u32) -> bool
     requires { task < length core.now.dag.tasks }
     ensures { result ≡ has_early_rule_in core.now.dag task }
@@ -89,8 +89,7 @@ fn has_early_rule(core: &Core<'_>, task: u32) -> bool
 }
 
 impl Cursors {
-    /// The cursors of a run of which nothing is known, and in which nothing can be noted of a task. They take no
-    /// memory.
+    /// Cursors of a run of which nothing is known, and in which nothing can be noted of any task. They take no memory.
     pub fn unknown(alloc: Global) -> Cursors
         ensures { (b : Backfill) (k : ℕ) → IsNoted b k result }
     {
@@ -102,7 +101,7 @@ impl Cursors {
         }
     }
 
-    /// The cursors of a run of so many tasks, of which nothing is known yet.
+    /// Cursors of a run of `tasks` tasks, of which nothing is known yet.
     pub fn new(alloc: Global, tasks: usize) -> Result<Cursors, OutOfMemory>
         ensures { IfOk result (λ row. (b : Backfill) (k : ℕ) → IsNoted b k row) }
     {
@@ -114,7 +113,7 @@ impl Cursors {
         })
     }
 
-    /// Notes that the first `finished` instances of a task have finished.
+    /// Notes that the first `finished` instances of a task have finished; does nothing where the task has no cursor.
     fn note_finished(&mut self, task: u32, finished: u32)
         ensures reached { (b : Backfill) (k : ℕ) → IsNoted b k self.old
             → AreFinished (cell_at b.state k task) finished → IsNoted b k self.new }
@@ -125,7 +124,8 @@ impl Cursors {
         }
     }
 
-    /// Notes that the first `passed` upstreams of a task don't keep it from being decided.
+    /// Notes that the first `passed` upstreams of a task don't keep it from being decided; does nothing where the task
+    /// has no cursor.
     fn note_passed(&mut self, task: u32, passed: u32)
         ensures { (b : Backfill) (k : ℕ) → IsNoted b k self.old
             → ArePassed (has_early_rule_in b.dag task) b.dag b.state k task passed
@@ -136,7 +136,7 @@ impl Cursors {
         }
     }
 
-    /// Notes that the first `settled` upstreams of a task are settled.
+    /// Notes that the first `settled` upstreams of a task are settled; does nothing where the task has no cursor.
     fn note_settled(&mut self, task: u32, settled: u32)
         ensures { (b : Backfill) (k : ℕ) → IsNoted b k self.old
             → ArePassed false b.dag b.state k task settled → IsNoted b k self.new }
@@ -175,7 +175,8 @@ impl Cursors {
         }
     }
 
-    /// Whether an upstream isn't waited for: it is settled, or a task with an early rule (`early`) needn't wait.
+    /// Whether a task needn't wait for an upstream in a run: it is settled, or it is no branch and the task's rule is
+    /// `early`.
     fn lets_decide(&mut self, core: &Core<'_>, run: u32, upstream: u32, early: bool) -> bool
         ensures lets { IsNoted core.now run self.old → result
             ≡ lets early core.now.dag core.now.state run upstream }
@@ -184,8 +185,8 @@ impl Cursors {
         self.is_settled(core, run, upstream) || (early && !core.plan().dag().is_branch(upstream))
     }
 
-    /// The place, from 0, of the first upstream that a task waits for, of those from the place `from` on; else how
-    /// many upstreams it has. `early` where its rule may decide before all of them are settled.
+    /// The place, from 0, of the first upstream for which a task waits, looking from the place `from` on; else how many
+    /// upstreams it has. `early` says that the task's rule may decide before all of them are settled.
     fn first_awaited(
         &mut self,
         core: &Core<'_>,

@@ -51,7 +51,7 @@ fn is_there(core: &Core<'_>, run: u32, task: u32) -> bool
     run < core.run_count() && (task as usize) < core.plan().dag().tasks.len()
 }
 
-/// Whether the task that an event decides, or of which it ends a try, is there with its run; true for other events.
+/// Whether the run and the task are there which an event decides, or of which it ends a try; true for other events.
 fn speaks_of_task(core: &Core<'_>, event: &Event) -> bool
     ensures { IsTrue result ↔ SpeaksOfTask core.now.dag core.now.state event.now }
 {
@@ -94,7 +94,8 @@ fn run_count(core: &Core<'_>) -> u32
     core.run_count()
 }
 
-/// Adds rows in which nothing is known, until there is one for each of `runs` runs.
+/// Adds rows in which nothing is known, until there is one for each of `runs` runs. What is noted stays true, at `Err`
+/// too.
 fn make_rows(alloc: Global, rows: &mut Vec<Cursors>, runs: u32) -> Result<(), OutOfMemory>
     ensures reached { (b : Backfill) → AreNoted b rows.old.items → AreNoted b rows.new.items }
     ensures rows { OnOk result (runs ≤ length rows.new.items) }
@@ -106,7 +107,7 @@ fn make_rows(alloc: Global, rows: &mut Vec<Cursors>, runs: u32) -> Result<(), Ou
 }
 
 /// The run that an event opens, or of which it decides a task or ends a try; None for other events. No clause says
-/// which.
+/// which run it is.
 fn run_touched_by(core: &Core<'_>, event: &Event) -> Option<u32> {
     match event {
         Event::Open => Some(core.opened_runs()),
@@ -116,8 +117,8 @@ fn run_touched_by(core: &Core<'_>, event: &Event) -> Option<u32> {
     }
 }
 
-/// Makes the row of a run one in which something can be noted of each of `tasks` tasks, where it isn't yet; a run
-/// without a row is left out.
+/// Gives the row of a run room to note something of each of `tasks` tasks, where it has none yet; does nothing where
+/// the run has no row. What is noted stays true, at `Err` too.
 fn prepare_row(
     alloc: Global,
     rows: &mut Vec<Cursors>,
@@ -134,7 +135,8 @@ fn prepare_row(
     Ok(())
 }
 
-/// Makes a row for each run, and prepares that of the run that an event speaks of.
+/// Makes a row for each run, and room to note something in that of the run that an event touches. What is noted stays
+/// true, at `Err` too.
 fn make_rows_for(
     alloc: Global,
     rows: &mut Vec<Cursors>,
@@ -151,7 +153,7 @@ fn make_rows_for(
     }
 }
 
-/// Drops what was noted of a run that an event has closed.
+/// Forgets what was noted of a run that an event has closed; does nothing for other events.
 fn forget_closed(alloc: Global, rows: &mut Vec<Cursors>, event: &Event)
     ensures { (b : Backfill) → AreNoted b rows.old.items → AreNoted b rows.new.items }
 {
@@ -180,7 +182,8 @@ impl Due {
         })
     }
 
-    /// Makes room for what one more event may make possible. Refused or not, what is kept stays up to date.
+    /// Makes room for the steps that `event` may make possible; called before the event comes. What is kept stays up to
+    /// date, at `Err` too.
     pub fn make_room(&mut self, core: &Core<'_>, event: &Event) -> Result<(), OutOfMemory>
         ensures kept { (b : Backfill) → IsUpToDate b self.old → IsUpToDate b self.new }
         ensures room { OnOk result (HasRoomForSteps core.now self.new) }
@@ -189,7 +192,8 @@ impl Due {
         self.agenda.make_room(core.plan().dag().tasks.len() + 2)
     }
 
-    /// Takes in an event that has come, for which there is room. It takes no memory.
+    /// Keeps the steps up to date after an event that has come to the core, for which `make_room` made room. It takes
+    /// no memory.
     pub fn on_event(&mut self, core: &Core<'_>, event: &Event)
         requires { HasRoomForSteps core.now self.old }
         ensures { (b : Backfill) → MayCome b event.now → core.now ≡ moved b event.now
@@ -203,8 +207,8 @@ impl Due {
         }
     }
 
-    /// The first step that may come by itself, by kind, and then by run, by rank and in the order of the file, as a
-    /// look at the whole backfill finds it; None where none may come.
+    /// The first step that may come by itself: by kind, then by run, by rank and in file order, as a look at the whole
+    /// backfill finds it. None where none may come.
     pub fn next_step(&self) -> Option<Event>
         ensures { (b : Backfill) → IsUpToDate b self.now → IsNextStep b result }
     {

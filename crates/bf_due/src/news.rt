@@ -8,7 +8,7 @@ use bf_rule::{Counts, Rule, is_rule_met};
 use bf_try::Outcome;
 use bf_value::JobName;
 
-/// What an event has made finish of a task in a run, counted by state.
+/// What of a task in a run has finished by an event, counted by state.
 #[derive(Clone, Copy)]
 pub struct News {
     pub run: u32,
@@ -16,7 +16,8 @@ pub struct News {
     pub counts: Counts,
 }
 
-/// The state in which a decision to this cell finishes a task, counted once; none where it has instances.
+/// What finishes once a task is decided to this cell: the task, counted once under its state, or nothing where it got
+/// instances or stays undecided.
 fn finished_counts_of_cell(cell: &Cell) -> Counts
     ensures { result ≡ heard_of_cell cell.now }
 {
@@ -30,7 +31,8 @@ fn finished_counts_of_cell(cell: &Cell) -> Counts
     counts
 }
 
-/// The state in which a try that ends in this phase finishes its instance, counted once; none where it is retried.
+/// What finishes once a try leaves its instance in this phase: the instance, counted once under its state, or nothing
+/// where it isn't finished.
 fn finished_counts_of_phase(phase: &Phase) -> Counts
     ensures { result ≡ finished_in phase.now }
 {
@@ -45,7 +47,7 @@ fn finished_counts_of_phase(phase: &Phase) -> Counts
 }
 
 impl News {
-    /// What the decision of a task in a run, which has come, has made finish: the task, or nothing where it got
+    /// What has finished by the decision of a task in a run, which has come: the task, or nothing where it got
     /// instances.
     pub fn of_decision(core: &Core<'_>, run: u32, task: u32) -> News
         requires { IsThere core.now.dag core.now.state run task }
@@ -58,7 +60,7 @@ impl News {
         News { run, task, counts }
     }
 
-    /// What the end of a try, which has come, has made finish: its instance, or nothing where the try is made again.
+    /// What has finished by the end of a try, which has come: its instance, or nothing where the try is made again.
     pub fn of_end(core: &Core<'_>, name: JobName) -> News
         ensures { result ≡ ended_at core.now.dag core.now.state name }
     {
@@ -74,7 +76,7 @@ impl News {
     }
 }
 
-/// Whether these counts meet a rule by what they have: it is met by them, and not by no instances.
+/// Whether these counts alone meet a rule: it is met by them, but not by no instances at all.
 pub fn rule_looks_for(rule: Rule, counts: Counts) -> bool
     ensures { result ≡ rule_looks_for_in rule counts }
 {

@@ -5,7 +5,7 @@ use bf_kept::{Keeping, KeptTries};
 use bf_try::{Done, RunnerFault, TaskRunner, Ticket};
 use bf_value::OutOfMemory;
 
-/// Answers tries for which nothing is waited. To hand one to a worker takes longer than to answer it.
+/// Answers tries at once, with no worker: those whose answers are at hand already.
 pub trait AnswerAtOnce {
     ghost use Rattle.bf_value.specs.declared.name.JobName.{JobName};
     ghost use Rattle.bf_xcom.specs.declared.values.Given.{Given};
@@ -14,7 +14,7 @@ pub trait AnswerAtOnce {
     /// The try of this name, given this, may be answered so at once.
     ghost may_answer_at_once: { Self → JobName → Given → Raw → Type 0 };
 
-    /// The answer to the try of a ticket, or the ticket again where a worker is to make it.
+    /// Answers the try of a ticket. `Err` hands the ticket back, where a worker is to make the try.
     fn answer_at_once(&self, ticket: Ticket) -> Result<Done, Ticket>
         ensures ok { IfOk result (λ d. (d.name ≡ ticket.name) × (d.given ≡ ticket.given)
             × may_answer_at_once self.now d.name d.given d.raw) }
@@ -32,7 +32,8 @@ impl<'a, R: TaskRunner> TaskRunner for ByWorkers<'a, R> {
 
     ghost may_give_up = { λ s n g. R.may_give_up s.runner.now n g };
 
-    /// Has the runner make the try. Where there is no answer the ticket comes back.
+    /// Has the runner make the try. `Err` hands the ticket back: `GaveUp` where the runner gave the try up,
+    /// `OutOfMemory` at want of memory.
     fn run(&self, ticket: Ticket) -> Result<Done, (Ticket, RunnerFault)> {
         self.runner.run(ticket)
     }
@@ -41,7 +42,7 @@ impl<'a, R: TaskRunner> TaskRunner for ByWorkers<'a, R> {
 impl<'a, R> AnswerAtOnce for ByWorkers<'a, R> {
     ghost may_answer_at_once = { λ _ _ _ _. ⊥ };
 
-    /// The ticket again: no try is answered at once.
+    /// Always hands the ticket back: workers make all tries.
     fn answer_at_once(&self, ticket: Ticket) -> Result<Done, Ticket> {
         Err(ticket)
     }
@@ -54,8 +55,8 @@ impl<'a, K: KeptTries, R: TaskRunner> AnswerAtOnce for Keeping<'a, K, R> {
     ghost may_answer_at_once = { λ s n g raw. IsAnswer (K.kept s.kept.now)
         (R.may_answer s.runner.now) n g raw };
 
-    /// The answer by which a kept try ends as it did; the ticket again where no try of the name is kept that was
-    /// given the same, or memory is wanting.
+    /// Answers a kept try so that it ends as it did before. `Err` hands the ticket back where no kept try of its name
+    /// was given the same, or at want of memory.
     fn answer_at_once(&self, ticket: Ticket) -> Result<Done, Ticket> {
         match self.kept.answer(self.alloc, ticket.name(), ticket.given()) {
             Ok(Some(raw)) => Ok(ticket.answer(raw)),

@@ -43,7 +43,7 @@ impl<'s, K: Service> Model for Executor<'s, K> {
     ghost view = { λ e. e.lanes };
 }
 
-/// Shows the observer the event that came last, if one came.
+/// Shows the observer the event that came last; does nothing where none came yet.
 fn show_last_event<O: Observer>(scheduler: &Scheduler<'_>, observer: &mut O)
     ensures { ShowsLast O.shows observer.old observer.new scheduler.now.backfill }
 {
@@ -52,8 +52,8 @@ fn show_last_event<O: Observer>(scheduler: &Scheduler<'_>, observer: &mut O)
     }
 }
 
-/// Lets the clock of the backfill come to the present moment, at most `LAST_MOMENT`, where that is later than what it
-/// shows, and shows the observer the tick.
+/// Moves the backfill's clock to the present moment, at most `LAST_MOMENT`, where that is later than it shows, and
+/// shows the observer the tick. `Err`, at want of memory, moves nothing.
 fn tick_to_present<C: TimeSource, O: Observer>(
     scheduler: &mut Scheduler<'_>,
     watch: &mut Watch<C, O>,
@@ -70,8 +70,8 @@ fn tick_to_present<C: TimeSource, O: Observer>(
     Ok(())
 }
 
-/// Moves the clock to the present, ends the try of an answer, and shows the observer these events. `Stranger` where
-/// the try doesn't run, or was given something else.
+/// Moves the clock to the present, ends the try of an answer, and shows the observer these events. `Stranger` where the
+/// try doesn't run or was given something else, `OutOfMemory` at want of memory.
 fn end_answered_try<C: TimeSource, O: Observer>(
     done: Done,
     scheduler: &mut Scheduler<'_>,
@@ -93,7 +93,8 @@ fn end_answered_try<C: TimeSource, O: Observer>(
     }
 }
 
-/// Ends a try that has begun, where `desk` answers it at once, and gives None then; else its ticket comes back.
+/// Ends a begun try if `desk` answers it at once, shows the observer that, and gives None; else gives the ticket back.
+/// `Err`, at want of memory, leaves the backfill as it was.
 fn end_at_once<D: AnswerAtOnce, O: Observer>(
     desk: &D,
     ticket: Ticket,
@@ -120,7 +121,7 @@ fn end_at_once<D: AnswerAtOnce, O: Observer>(
 }
 
 impl<'s, K: Service + Send + Sync + 's> Executor<'s, K> {
-    /// The executor of a backfill over these lanes.
+    /// An executor over the lanes of the workers.
     pub fn new(lanes: Lanes<'s, K>) -> Executor<'s, K>
         ensures { result ≡ lanes.entry }
     {
@@ -134,8 +135,8 @@ impl<'s, K: Service + Send + Sync + 's> Executor<'s, K> {
         self.lanes.len()
     }
 
-    /// Waits for an answer, and gives the place of its lane, from 0, too. None only where `until` is given, in
-    /// seconds since 1970, and the clock's last answer isn't before that.
+    /// Waits for an answer, and gives it with the place of its lane, from 0. None only where `until`, in seconds since
+    /// 1970, is given and the clock last showed that moment or a later one.
     fn gather<W: Wait, C: TimeSource>(
         &mut self,
         rt: &W,
@@ -153,8 +154,9 @@ impl<'s, K: Service + Send + Sync + 's> Executor<'s, K> {
         }
     }
 
-    /// Waits for an answer and ends its try; nothing where `until` is given, in seconds since 1970, and comes first.
-    /// `Runner` where the runner gave the try up.
+    /// Waits for an answer and ends its try; does nothing where `until`, in seconds since 1970, comes first. `Runner`
+    /// where the runner gave the try up, `Stranger` where it doesn't run or was given something else, `OutOfMemory` at
+    /// want of memory.
     #[tactic(auto, using(crate::proofs::Turning::gathered_in_step, bf_sched::proofs::Driving::same_driven, crate::proofs::Turning::halted_by, crate::proofs::Shown::still_shown))]
     fn wait_and_end_try<W: Wait, C: TimeSource, O: Observer>(
         &mut self,
@@ -184,10 +186,9 @@ impl<'s, K: Service + Send + Sync + 's> Executor<'s, K> {
         }
     }
 
-    /// One turn of the scheduling loop, in which the clock of the backfill catches up first: an event comes by
-    /// itself, or a try begins and is answered at once or submitted to a worker, or where nothing can come an answer
-    /// is waited for and its try ends, unless the moment comes first for which a try waits. False where the backfill
-    /// has ended. After an error only `close` may follow. The observer is shown each event.
+    /// One turn of the scheduling loop: moves the clock to the present, then lets an event come by itself, or begins a
+    /// try and answers it at once or submits it to a worker, or waits for an answer or a moment. Shows the observer
+    /// each event. False where the backfill has ended. `Err` is as in `TurnFault`; only `close` may follow it.
     pub fn turn<W: Wait, D: AnswerAtOnce, C: TimeSource, O: Observer>(
         &mut self,
         rt: &W,

@@ -19,7 +19,7 @@ pub(crate) trait Shared {
     /// Where memory comes from.
     fn alloc(&self) -> Global;
 
-    /// On which the scheduler sleeps while there is no answer.
+    /// What the scheduler sleeps on while there is no answer.
     fn answered(&self) -> &Parker;
 }
 
@@ -48,7 +48,8 @@ impl<'r, R: TaskRunner> TaskRunner for Desk<'r, R> {
 
     ghost may_give_up = { λ d n g. R.may_give_up d.runner.now n g };
 
-    /// Has the runner make the try. Where there is no answer the ticket comes back.
+    /// Has the runner make the try. `Err` hands the ticket back: `GaveUp` where the runner gave the try up,
+    /// `OutOfMemory` at want of memory.
     fn run(&self, ticket: Ticket) -> Result<Done, (Ticket, RunnerFault)> {
         self.runner.run(ticket)
     }
@@ -57,7 +58,7 @@ impl<'r, R: TaskRunner> TaskRunner for Desk<'r, R> {
 impl<'r, R: AnswerAtOnce> AnswerAtOnce for Desk<'r, R> {
     ghost may_answer_at_once = { λ d n g r. R.may_answer_at_once d.runner.now n g r };
 
-    /// The runner's answer, where it answers the try at once; else the ticket again.
+    /// Answers the try if the runner does so at once; else `Err` hands the ticket back.
     fn answer_at_once(&self, ticket: Ticket) -> Result<Done, Ticket> {
         self.runner.answer_at_once(ticket)
     }

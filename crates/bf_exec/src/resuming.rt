@@ -20,11 +20,11 @@ use std::alloc::Global;
 use std::sync::Wait;
 use std::thread::Threads;
 
-/// The end of a backfill of a plan over these runs, of which tries are kept: a try that is kept, and is given the same
-/// again, ends as it did at once and is never given up, and the runner answers every other. All else is as in `run_backfill`.
+/// Drives a backfill of the plan over these runs to its end, with kept tries: a kept try that is given the same again
+/// ends as it did, at once, and `keeping`'s runner answers every other. All else is as in `run_backfill`.
 ///
-/// Where the runner could have given what is kept, it could have given all: so a backfill that goes on from what is kept of one
-/// that was broken off ends as one that the runner answers alone.
+/// If the runner could have given what is kept, it could have given all: a backfill that goes on from what is kept of a
+/// broken-off one ends as one that the runner answers alone.
 pub fn resume<
     'p,
     W: Threads + Wait + Sync,

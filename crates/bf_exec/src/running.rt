@@ -35,7 +35,7 @@ use std::sync::Wait;
 use std::thread;
 use std::thread::{Parker, Scope, Threads};
 
-/// Turns until the backfill has ended, or a turn halts, with the fault of that.
+/// Takes turns until the backfill has ended. `Err`, as in `TurnFault`, where a turn halts.
 #[tactic(auto, using(bf_sched::proofs::Driving::same_driven, crate::proofs::Turning::left_by))]
 fn all_turns<
     's,
@@ -69,8 +69,8 @@ fn all_turns<
     unreachable!()
 }
 
-/// Drives a backfill from its start to its end, by turns of the executor; a fault where one of them halts. Leaves the
-/// lanes open.
+/// Drives a backfill from its start to its end by turns of the executor, and leaves the lanes open. `Err`, as in
+/// `TurnFault`, where a turn halts or memory is wanting.
 fn drive<'s, 'p, K, W, D, N, C, O>(
     rt: &W,
     desk: &D,
@@ -106,7 +106,7 @@ where
     }
 }
 
-/// The fault of a backfill of which a turn halted by `halt`. That isn't `Stranger`, which the closed lanes rule out.
+/// The fault of a backfill of which a turn halted by `halt`: want of memory, or a try that the runner gave up.
 fn fault_of(halt: TurnFault) -> BackfillFault
     requires { halt ≢ TurnFault.Stranger }
     ensures { IsFaultOf halt result }
@@ -119,7 +119,8 @@ fn fault_of(halt: TurnFault) -> BackfillFault
 }
 
 /// Starts the workers in a scope of threads, drives the backfill, and joins the workers, after a fault too. `queues`
-/// and `seats` are those of each lane, in one order.
+/// and `seats` are those of each lane, in the same order. `Start` where a worker can't be started, `Runner` where the
+/// runner gave a try up, `OutOfMemory` at want of memory.
 #[tactic(auto, using(crate::proofs::Closing::may_fail))]
 fn run_in_scope<'s, 'p, K, E, W, D, N, C, O>(
     scope: &Scope<'s, E>,
@@ -159,7 +160,8 @@ where
     }
 }
 
-/// The end of the backfill that an order asks for, by its workers, which share the desk.
+/// Drives the backfill that `order` asks for to its end, by workers that share `desk`. `Start` where a worker can't be
+/// started, `Runner` where the runner gave a try up, `OutOfMemory` at want of memory.
 fn run_order<'p, K, W, D, N, C, O>(
     rt: &W,
     desk: &D,
@@ -200,7 +202,7 @@ where
     ended
 }
 
-/// The end of a backfill as `run_backfill` gives it, but that a try which is answered at once is handed to no worker.
+/// Drives a backfill to its end as `run_backfill` does, but hands no worker a try that `runner` answers at once.
 pub(crate) fn run_with_answers_at_once<
     'p,
     W: Threads + Wait + Sync,
@@ -238,11 +240,11 @@ pub(crate) fn run_with_answers_at_once<
     run_order::<Brand, W, Desk<'_, R>, N, C, O>(rt, &desk, &order, watch)
 }
 
-/// The end of a backfill of a plan over these runs, whose tries the runner answers, by so many workers at once. The clock
-/// says when tries may begin that wait for a moment; the observer is shown each event as it comes. After a fault no try
-/// begins, those that run are waited for, and all threads have ended.
+/// Drives a backfill of the plan over these runs to its end, by so many workers at once; `runner` answers its tries.
+/// The clock says when tries may begin that wait for a moment; the observer is shown each event as it comes.
 ///
-/// A try that the runner gives up is the fault `Runner`, and a thread that can't be started is `Start`.
+/// `Runner` where the runner gives a try up, `Start` where a thread can't be started, `OutOfMemory` at want of memory.
+/// After a fault no try begins, those that run are waited for, and all threads have ended.
 pub fn run_backfill<
     'p,
     W: Threads + Wait + Sync,

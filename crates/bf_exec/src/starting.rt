@@ -35,8 +35,8 @@ pub(crate) fn all_queues_and_seats<K: Service>(
     Ok((queues, seats))
 }
 
-/// Starts a worker for each lane. Where one can't be started (`Start`) or memory is wanting, those that were are
-/// stopped, and have ended.
+/// Starts a worker for each lane, and gives the lanes. `Start` where a worker can't be started, `OutOfMemory` at want
+/// of memory; the workers that were started have ended then.
 pub(crate) fn start_lanes<'s, K, E, W, D>(
     scope: &Scope<'s, E>,
     rt: &'s W,

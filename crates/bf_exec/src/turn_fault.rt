@@ -9,8 +9,8 @@ pub enum TurnFault {
     OutOfMemory,
     /// The runner gave up this try.
     Runner(JobName),
-    /// No try that runs has the name of the answer that was gathered, with what was given to it. Once the lanes are closed,
-    /// their lists show that this has not been.
+    /// The gathered answer is to no running try, or to one that was given something else. Once the lanes are closed,
+    /// their lists show that this never was.
     Stranger,
 }
 
@@ -19,6 +19,7 @@ impl From<OutOfMemory> for TurnFault {
 
     ghost from_gives = { λ _ e. e ≡ OutOfMemory };
 
+    /// Want of memory is the fault `OutOfMemory`.
     fn from(_e: OutOfMemory) -> TurnFault {
         TurnFault::OutOfMemory
     }

@@ -1,7 +1,7 @@
 //! The clock of a backfill, and who is shown its events.
 use bf_core::{Core, Event};
 
-/// Is shown each event of a backfill when it has come. Nothing that comes of the backfill rests on it.
+/// Watches a backfill: it is shown each event once that has come. What comes of the backfill doesn't depend on it.
 pub trait Observer {
     ghost use Rattle.std.specs.Prelude.{ℕ};
     ghost use Rattle.bf_core.specs.declared.event.Event.{Event};
@@ -14,7 +14,7 @@ pub trait Observer {
         ensures { shows self.old event.now running self.new };
 }
 
-/// The observer that there may be.
+/// An observer that may be missing.
 impl<O: Observer> Observer for Option<O> {
     ghost use Rattle.bf_exec.specs.Shown.{IsShownTo};
 

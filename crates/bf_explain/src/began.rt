@@ -15,10 +15,10 @@ use bf_why::id_at;
 use bf_wording::{name_list, one_line, value_text};
 use std::alloc::Global;
 
-/// How many characters of a value stand in a sentence.
+/// How many characters of a value a sentence shows.
 const MOST_CHARACTERS: usize = 200;
 
-/// What an instance pushed, as JSON cut to 200 characters, also where it pushed nothing.
+/// What an instance pushed, as JSON cut to 200 characters; `nothing` where it pushed nothing.
 fn pushed_text(alloc: Global, instance: &InstanceReport) -> Result<Text, OutOfMemory>
     ensures { IfOk result (λ text. text
         ≡ value_text_of 200 (pushed_by instance.now.result.outcome)) }
@@ -27,8 +27,8 @@ fn pushed_text(alloc: Global, instance: &InstanceReport) -> Result<Text, OutOfMe
     value_text(alloc, ended.outcome.pushed(), MOST_CHARACTERS)
 }
 
-/// What the first instance of a task pushed, as JSON cut to 200 characters, also where there is none or it pushed
-/// nothing.
+/// What the first instance of a task pushed, as JSON cut to 200 characters; `nothing` where it pushed nothing or the
+/// task has no instance.
 fn first_pushed_text(alloc: Global, told: Option<&TaskReport>) -> Result<Text, OutOfMemory>
     ensures { IfOk result (λ text. text
         ≡ value_text_of 200 (pushed_first (option_copied told.entry))) }
@@ -43,8 +43,8 @@ fn first_pushed_text(alloc: Global, told: Option<&TaskReport>) -> Result<Text, O
     }
 }
 
-/// What began at a task, as the words behind its id, as `failed` or `pushed [1]`. `told` is what the report has of
-/// the task.
+/// What happened at a root, in the words that follow its id, such as `failed` or `pushed [1]`. `told` is the report's
+/// entry of that task.
 fn began_text(alloc: Global, began: Began, told: Option<&TaskReport>) -> Result<Text, OutOfMemory>
     ensures { IfOk result (λ text. text ≡ began_text_of began (option_copied told.entry)) }
 {
@@ -59,7 +59,7 @@ fn began_text(alloc: Global, began: Began, told: Option<&TaskReport>) -> Result<
     }
 }
 
-/// The text of the start of a run; empty where `run` is None.
+/// The start of a run in UTC; empty where `run` is None.
 fn start_text(alloc: Global, run: Option<&RunReport>) -> Result<Text, OutOfMemory>
     ensures { IfOk result (λ text. text ≡ start_text_of (option_copied run.entry)) }
 {
@@ -72,7 +72,7 @@ fn start_text(alloc: Global, run: Option<&RunReport>) -> Result<Text, OutOfMemor
     }
 }
 
-/// The words ` in the run of T` for the run `other`; empty where that is `run` itself.
+/// The words ` in the run of START` for run number `other`; empty where `other` is `run`, the run explained.
 pub(crate) fn other_run_text(
     alloc: Global,
     report: &Report,
@@ -88,7 +88,7 @@ pub(crate) fn other_run_text(
     Ok(Text::new(format!(in alloc; " in the run of {start}")?))
 }
 
-/// The tasks of the run of this number, 0 for the first; none where there is no such run.
+/// The tasks of run number `run`, from 0; empty where the report has no such run.
 fn tasks_at(report: &Report, run: u32) -> &[TaskReport]
     ensures { result.now ≡ tasks_in report.now run }
 {
@@ -98,7 +98,8 @@ fn tasks_at(report: &Report, run: u32) -> &[TaskReport]
     }
 }
 
-/// A root in words, as `load failed in the run of T`; its run is left out where it is `run`, the one explained.
+/// A root in words, such as `load failed in the run of 2024-03-04T00:00:00Z`; its run is left out where it is `run`,
+/// the run explained.
 fn root_text(
     alloc: Global,
     plan: &Plan,
@@ -115,14 +116,14 @@ fn root_text(
     Ok(Text::new(format!(in alloc; "{id} {began}{there}")?))
 }
 
-/// Whether a task is one of these tasks.
+/// Whether `task` is one of `tasks`.
 fn is_among(tasks: &[u32], task: u32) -> bool
     ensures { result ≡ list_any (λ other. other == task) tasks.now }
 {
     tasks.iter().any(|other| *other == task)
 }
 
-/// Whether a root is in another run than `run`, or isn't directly upstream of `task`.
+/// Whether a root lies in another run than `run`, or isn't directly upstream of `task`.
 fn is_far_root(plan: &Plan, run: u32, task: u32, root: &Root) -> bool
     requires { task < length plan.now.dag.tasks }
     ensures { result ≡ is_far_root_in plan.now.dag run task root.now }
@@ -131,7 +132,8 @@ fn is_far_root(plan: &Plan, run: u32, task: u32, root: &Root) -> bool
     root.run != run || !is_among(upstreams, root.task)
 }
 
-/// Adds a root in words to `names`, where it is in another run than `run` or isn't directly upstream of `task`.
+/// Adds a root in words to `names` where it lies in another run than `run` or isn't directly upstream of `task`; adds
+/// nothing otherwise.
 fn add_far_root(
     alloc: Global,
     names: &mut Vec<Text>,
@@ -151,7 +153,7 @@ fn add_far_root(
     Ok(())
 }
 
-/// Those of these roots, in words, that are in another run than `run` or not directly upstream of `task`.
+/// The roots, in words and in order, that lie in another run than `run` or aren't directly upstream of `task`.
 fn far_root_names(
     alloc: Global,
     plan: &Plan,
@@ -171,7 +173,7 @@ fn far_root_names(
     Ok(names)
 }
 
-/// The one sentence `It began where ..` with these names; no sentence where there are no names.
+/// The one sentence `It began where NAMES.` Empty where there are no names.
 fn began_sentence(alloc: Global, names: &[Text]) -> Result<Vec<Text>, OutOfMemory>
     ensures { IfOk result (λ lines. lines.items ≡ began_sentence_of names.now) }
 {
@@ -185,8 +187,8 @@ fn began_sentence(alloc: Global, names: &[Text]) -> Result<Vec<Text>, OutOfMemor
     )
 }
 
-/// The one sentence on those of these roots of a task in `run` that are in another run or not directly upstream of
-/// it; no sentence where there are none.
+/// The one sentence on the roots of a task in run number `run` that lie in another run or aren't directly upstream of
+/// it. Empty where there is no such root.
 pub(crate) fn began_lines(
     alloc: Global,
     plan: &Plan,

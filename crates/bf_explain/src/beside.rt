@@ -27,8 +27,8 @@ pub(crate) fn outcome_word(outcome: &Outcome) -> &'static str
     }
 }
 
-/// The word for the state of a task that isn't expanded, by its one result. Contracts say nothing of no result or
-/// several.
+/// The word for the state of a task that isn't expanded, from `results`, its one result. The contract says nothing of
+/// other lengths.
 fn result_word(results: &[TaskResult]) -> &'static str
     ensures { (instance : InstanceReport) → results.now ≡ instance.result ∷ [] → result.now
         ≡ state_word instance.result.outcome }
@@ -39,7 +39,7 @@ fn result_word(results: &[TaskResult]) -> &'static str
     }
 }
 
-/// How many instances there are, and how many in each state, as `3 instances, 2 success, 1 failed`.
+/// How many instances a task has, and how many are in each state, such as `3 instances, 2 success, 1 failed`.
 fn instances_text(alloc: Global, instances: usize, counts: &Counts) -> Result<Text, OutOfMemory>
     ensures { IfOk result (λ text. text ≡ instances_text_of instances counts.now) }
 {
@@ -48,7 +48,8 @@ fn instances_text(alloc: Global, instances: usize, counts: &Counts) -> Result<Te
     Ok(Text::new(format!(in alloc; "{instances}, {counts}")?))
 }
 
-/// The state of a task, as `skipped`; of an expanded one that ran `3 instances, 2 success, 1 failed`.
+/// The state of a task, such as `skipped`; for an expanded task that ran, its instances by state, such as `3 instances,
+/// 2 success, 1 failed`.
 fn settled_state_text(alloc: Global, task: &Settled<'_>) -> Result<Text, OutOfMemory>
     ensures { IfOk result (λ text. text ≡ state_text_of (Some task.now)) }
 {
@@ -61,8 +62,8 @@ fn settled_state_text(alloc: Global, task: &Settled<'_>) -> Result<Text, OutOfMe
     }
 }
 
-/// The state of a task, as `skipped`, of an expanded one that ran `3 instances, 2 success, 1 failed`; `no_status`
-/// where `task` is None.
+/// The state of a task, such as `skipped`; for an expanded task that ran, its instances by state, such as `3 instances,
+/// 2 success, 1 failed`. It is `no_status` where `task` is None.
 pub(crate) fn state_text(alloc: Global, task: Option<&Settled<'_>>) -> Result<Text, OutOfMemory>
     ensures { IfOk result (λ text. text ≡ state_text_of (option_map (λ t. t.now) task.entry)) }
 {
@@ -72,7 +73,7 @@ pub(crate) fn state_text(alloc: Global, task: Option<&Settled<'_>>) -> Result<Te
     }
 }
 
-/// Adds so many spaces.
+/// Adds `count` spaces to `text`.
 fn push_spaces(text: &mut String, count: usize) -> Result<(), OutOfMemory>
     ensures { OnOk result (string_bytes text.new
         ≡ string_bytes text.old ++ repeat count (32 ∷ [])) }
@@ -83,7 +84,7 @@ fn push_spaces(text: &mut String, count: usize) -> Result<(), OutOfMemory>
     Ok(())
 }
 
-/// An id and spaces behind it, up to `width` bytes; a longer id isn't cut.
+/// An id followed by spaces up to `width` bytes; an id of `width` bytes or more is left as it is.
 pub(crate) fn padded(alloc: Global, id: &str, width: usize) -> Result<Text, OutOfMemory>
     ensures { IfOk result (λ text. text ≡ padded_of width id.now) }
 {
@@ -92,14 +93,14 @@ pub(crate) fn padded(alloc: Global, id: &str, width: usize) -> Result<Text, OutO
     Ok(Text::new(text))
 }
 
-/// The id of a task; empty where there is no such task.
+/// The id of task number `task`; empty where the plan has no such task.
 fn id_in(plan: &Plan, task: u32) -> &str
     ensures { result.now ≡ id_of plan.now.dag task }
 {
     id_at(plan.dag(), task)
 }
 
-/// How many bytes the longest id of these tasks has; 0 where there is none.
+/// The length in bytes of the longest id of these tasks; 0 where there are no tasks.
 fn id_width(plan: &Plan, tasks: &[u32]) -> usize
     ensures { result ≡ id_width_of plan.now.dag tasks.now }
 {
@@ -110,8 +111,8 @@ fn id_width(plan: &Plan, tasks: &[u32]) -> usize
     width
 }
 
-/// The line of a task, without a line feed: its id in a column of `width` bytes, and its state in the run, of which
-/// `settled` are the tasks.
+/// The line of a task, without a line feed: its id, padded to `width` bytes, two spaces and its state. `settled` are
+/// the tasks of the run.
 fn task_line(
     alloc: Global,
     plan: &Plan,
@@ -126,8 +127,8 @@ fn task_line(
     Ok(Text::new(format!(in alloc; "{id}  {state}")?))
 }
 
-/// A line for each of these tasks, without a line feed: its id and its state in the run, of which `settled` are the
-/// tasks.
+/// A line for each of these tasks, in order and without a line feed: its id in a column as wide as the longest, and its
+/// state. `settled` are the tasks of the run.
 pub(crate) fn task_lines(
     alloc: Global,
     plan: &Plan,

@@ -14,11 +14,11 @@ use bf_report::{InstanceReport, Pull, RunReport, TaskReport, Version};
 use bf_value::{OutOfMemory, Sequence, Text, copy_option};
 use bf_wording::one_line;
 use bf_words::{JobContext, words};
-use bf_xcom::{Given, Pulled};
+use bf_xcom::{Given, SharedValue};
 use std::alloc::Global;
 
-/// Whether a report of this version has the value of a word of a command for an instance. Only version 2 has items
-/// and pulls, and an item only where the instance has one.
+/// Whether a report of this version holds the value that `word` stands for in the command of `instance`. Version 1
+/// holds neither pulls nor items; version 2 holds an item only where the instance has one.
 fn tells_word(version: Version, instance: &InstanceReport, word: &Word) -> bool
     ensures { result ≡ tells_word_in version instance.now word.now }
 {
@@ -29,7 +29,7 @@ fn tells_word(version: Version, instance: &InstanceReport, word: &Word) -> bool
     }
 }
 
-/// Whether a report of this version has the value of each word of a command for an instance.
+/// Whether a report of this version holds the value of every word of `command` for `instance`; true for no words.
 fn tells_each(version: Version, instance: &InstanceReport, command: &[Word]) -> bool
     ensures { result ≡ list_all (tells_word_in version instance.now) command.now }
 {
@@ -38,15 +38,14 @@ fn tells_each(version: Version, instance: &InstanceReport, command: &[Word]) -> 
         .all(|word| tells_word(version, instance, word))
 }
 
-/// Whether a command isn't empty, and a report of this version has the value of each of its words for an instance.
+/// Whether `command` isn't empty and a report of this version holds the value of each of its words for `instance`.
 fn tells_words(version: Version, instance: &InstanceReport, command: &[Word]) -> bool
     ensures { result ≡ tells_words_in version instance.now command.now }
 {
     command.len() != 0 && tells_each(version, instance, command)
 }
 
-/// The map index of the one instance that is explained: `index` for an expanded task, and -1 for another or where
-/// none is given.
+/// The map index of the instance to explain: `index` where the task ran expanded and an index is given, else -1.
 pub(crate) fn index_of(told: &TaskReport, index: Option<i32>) -> i32
     ensures { result ≡ index_in told.now index }
 {
@@ -56,8 +55,8 @@ pub(crate) fn index_of(told: &TaskReport, index: Option<i32>) -> i32
     }
 }
 
-/// The values of pulls, in order, each a value or nothing.
-fn pulled_values(alloc: Global, pulls: &[Pull]) -> Result<Sequence<Pulled>, OutOfMemory>
+/// The value of each pull, in order; a pull that found nothing keeps its place, without a value.
+fn pulled_values(alloc: Global, pulls: &[Pull]) -> Result<Sequence<SharedValue>, OutOfMemory>
     ensures { IfOk result (λ values. values ≡ map (λ pull. pull.value) pulls.now) }
 {
     let mut values = Vec::with_capacity(alloc, pulls.len())?;
@@ -67,7 +66,7 @@ fn pulled_values(alloc: Global, pulls: &[Pull]) -> Result<Sequence<Pulled>, OutO
     Ok(Sequence::from_vec(values))
 }
 
-/// What an instance was given, as a report of version 2 has it: its item and what it pulled.
+/// What an instance was given, as its report has it: its item and the values that it pulled.
 fn given_of(alloc: Global, instance: &InstanceReport) -> Result<Given, OutOfMemory>
     ensures { IfOk result (λ given. given ≡ given_in instance.now) }
 {
@@ -76,7 +75,7 @@ fn given_of(alloc: Global, instance: &InstanceReport) -> Result<Given, OutOfMemo
     Ok(Given { item, pulled })
 }
 
-/// These words as texts, in order.
+/// Turns `words` into texts, in order.
 fn texts_of(alloc: Global, words: Vec<String>) -> Result<Vec<Text>, OutOfMemory>
     ensures { IfOk result (λ all. all.items ≡ texts words.items) }
 {
@@ -87,7 +86,7 @@ fn texts_of(alloc: Global, words: Vec<String>) -> Result<Vec<Text>, OutOfMemory>
     Ok(all)
 }
 
-/// These words, each quoted for a shell, with a space between; no line feed.
+/// One line of a shell: the words, each quoted where a shell needs it, with a space between and no line feed.
 fn line_of_words(alloc: Global, words: Vec<String>) -> Result<Text, OutOfMemory>
     ensures { IfOk result (λ line. line ≡ line_of (texts words.items)) }
 {
@@ -97,8 +96,8 @@ fn line_of_words(alloc: Global, words: Vec<String>) -> Result<Text, OutOfMemory>
     Ok(Text::new(line))
 }
 
-/// The line for a shell, without a line feed, that runs the last try of an instance: the words of its command with
-/// their values. `report` is the run, number `run`; `index` is -1 where the task isn't expanded.
+/// The shell line, without a line feed, that repeats the last try of `instance`: the words of its command with their
+/// values. `report` is run number `run`; `index` is -1 where the task isn't expanded.
 fn by_hand_line(
     alloc: Global,
     plan: &Plan,
@@ -128,7 +127,8 @@ fn by_hand_line(
     line_of_words(alloc, words)
 }
 
-/// Whether a task has a command, and a report of this version has the value of each of its words for an instance.
+/// Whether task number `task` has a command, and a report of this version holds the value of each of its words for
+/// `instance`.
 fn is_command_told(plan: &Plan, version: Version, task: u32, instance: &InstanceReport) -> bool
     requires { task < length plan.now.dag.tasks }
     ensures { result ≡ tells_words_in version instance.now (task_of plan.now.dag task).command }
@@ -136,8 +136,9 @@ fn is_command_told(plan: &Plan, version: Version, task: u32, instance: &Instance
     tells_words(version, instance, plan.dag().task(task).command.as_slice())
 }
 
-/// The one line for a shell that runs the last try of an instance; no line where `instance` is None, the task has no
-/// command, or the report doesn't have all its values. `index` is -1 where the task isn't expanded.
+/// The one shell line that repeats the last try of `instance`. Empty where `instance` is None, the task has no command,
+/// or the report lacks the value of one of its words. `report` is run number `run`; `index` is -1 where the task isn't
+/// expanded.
 pub(crate) fn by_hand_lines(
     alloc: Global,
     plan: &Plan,

@@ -23,7 +23,7 @@ fn begins_with_hyphen(word: &str) -> bool
     }
 }
 
-/// Adds an option and its value as two words, or as one with `=` where the value begins with a hyphen.
+/// Adds an option and its value as two words, or as one, `NAME=VALUE`, where the value begins with a hyphen.
 fn add_option(
     alloc: Global,
     words: &mut Vec<Text>,
@@ -40,7 +40,7 @@ fn add_option(
     add_line(alloc, words, word)
 }
 
-/// Adds the option `--zone-file` with its path; nothing where that is None.
+/// Adds the option `--zone-file` with its path; adds nothing where `zone_file` is None.
 fn add_zone(
     alloc: Global,
     words: &mut Vec<Text>,
@@ -66,7 +66,7 @@ fn add_paths(alloc: Global, words: &mut Vec<Text>, paths: &Paths) -> Result<(), 
     add_line(alloc, words, report)
 }
 
-/// The start of a run, without its time where that is midnight in UTC; empty where `run` is None.
+/// The start of a run in UTC, without its time where that is midnight; empty where `run` is None.
 fn short_start(alloc: Global, run: Option<&RunReport>) -> Result<Text, OutOfMemory>
     ensures { IfOk result (λ text. text ≡ short_start_of (option_copied run.entry)) }
 {
@@ -76,7 +76,7 @@ fn short_start(alloc: Global, run: Option<&RunReport>) -> Result<Text, OutOfMemo
     }
 }
 
-/// The start of the run of this number, without its time where that is midnight in UTC; empty where there is no such
+/// The start of run number `run` in UTC, without its time where that is midnight; empty where the report has no such
 /// run.
 fn short_start_at(alloc: Global, report: &Report, run: usize) -> Result<Text, OutOfMemory>
     ensures { IfOk result (λ text. text ≡ short_start_in report.now run) }
@@ -84,7 +84,7 @@ fn short_start_at(alloc: Global, report: &Report, run: usize) -> Result<Text, Ou
     short_start(alloc, report.runs.get(run))
 }
 
-/// Adds `--from` and `--to` with the starts of the report's first and last run; the values are empty where it has no
+/// Adds `--from` and `--to` with the starts of the report's first and last run; both values are empty where it has no
 /// runs.
 fn add_range(alloc: Global, words: &mut Vec<Text>, report: &Report) -> Result<(), OutOfMemory>
     ensures { OnOk result (words.new.items ≡ words.old.items ++ range_words report.now) }
@@ -124,7 +124,7 @@ fn first_words(alloc: Global) -> Result<Vec<Text>, OutOfMemory>
     Ok(words)
 }
 
-/// The words of the `clear` command that clears the task of this place in its run, over the files of `paths`.
+/// The words of the command that clears the task of `place` in its run. `paths` are the files that it names.
 fn clear_words(
     alloc: Global,
     paths: &Paths,
@@ -143,7 +143,7 @@ fn clear_words(
     Ok(words)
 }
 
-/// The path of the new report: that of the report with `.new` behind it.
+/// The path of the new report: that of the old report, followed by `.new`.
 fn new_report_path(alloc: Global, paths: &Paths) -> Result<Text, OutOfMemory>
     ensures { IfOk result (λ path. path ≡ paths.now.report ++ codes ".new") }
 {
@@ -151,8 +151,8 @@ fn new_report_path(alloc: Global, paths: &Paths) -> Result<Text, OutOfMemory>
     Ok(Text::new(format!(in alloc; "{report}.new")?))
 }
 
-/// The line for a shell, without a line feed, that clears the task of a place in its run, over the files of `paths`,
-/// and puts the new report into a file beside the old one.
+/// The shell line, without a line feed, that clears the task of `place` in its run and writes the new report to the
+/// path of the old one with `.new` added. `paths` are the files that it names.
 pub(crate) fn clear_line(
     alloc: Global,
     paths: &Paths,

@@ -16,17 +16,17 @@ use bf_why::id_at;
 use bf_wording::{add_lines, count_text, one_line};
 use std::alloc::Global;
 
-/// At most of so many places where something began the line is told.
+/// A clear command is shown for at most this many roots.
 const MOST_PLACES: usize = 3;
 
-/// How many tasks follow from one, and in how many runs.
+/// How much is cleared: `tasks`, where a task in two runs counts twice, in `runs` runs in a row.
 #[derive(Clone, Copy, Debug, PartialEq, Eq)]
 pub struct ClearedCount {
     pub tasks: u64,
     pub runs: u64,
 }
 
-/// The place of all instances of a task in a run.
+/// The place of task number `task` in run number `run`, with all its instances.
 fn place_at(run: u32, task: u32) -> Place
     ensures { result ≡ place_in run task }
 {
@@ -45,8 +45,8 @@ fn last_run(run: u32, places: &[Place]) -> u32
     last
 }
 
-/// How many tasks are cleared with this place, itself included, and over how many runs from its own to the last of
-/// them. The report has `runs` runs.
+/// How many tasks are cleared with `place`, itself included and counted in each run, and how many runs there are from
+/// its own to the last of theirs. The report has `runs` runs.
 fn count_cleared_with(
     alloc: Global,
     plan: &Plan,
@@ -64,8 +64,8 @@ fn count_cleared_with(
     })
 }
 
-/// The words ` ID` and, for another run, ` in the run of T`; empty where the place is the task explained, `task` in
-/// `run`.
+/// The words ` ID` and, for another run than `run`, ` in the run of START`. Empty where the place is `task` in `run`,
+/// the task explained.
 fn place_text(
     alloc: Global,
     plan: &Plan,
@@ -84,8 +84,8 @@ fn place_text(
     Ok(Text::new(format!(in alloc; " {id}{there}")?))
 }
 
-/// The heading over a line that clears: `place`, with a space before it or empty, and how many tasks in how many runs
-/// are cleared.
+/// The heading over a clear command, such as `clear load, with what follows from it: 3 tasks in 2 runs`. `place` names
+/// what is cleared, with a space before it; it is empty for the task explained.
 fn clear_heading(alloc: Global, place: &Text, cleared: ClearedCount) -> Result<Text, OutOfMemory>
     ensures { IfOk result (λ text. text ≡ clear_heading_of place.now cleared) }
 {
@@ -95,7 +95,8 @@ fn clear_heading(alloc: Global, place: &Text, cleared: ClearedCount) -> Result<T
     Ok(Text::new(text))
 }
 
-/// Whether a run is of `single`: its data interval ends where it starts. True where `run` is None.
+/// Whether a run's data interval ends where it starts, which is so only for a run of `backfill single`; true where
+/// `run` is None.
 fn is_of_single(run: Option<&RunReport>) -> bool
     ensures { result ≡ is_of_single_in (option_copied run.entry) }
 {
@@ -105,8 +106,8 @@ fn is_of_single(run: Option<&RunReport>) -> bool
     }
 }
 
-/// The heading and the line that clear a place; none where its run is of `single`. `task` in `run` is the one
-/// explained.
+/// The heading and the shell line that clear a place. Empty where the report lacks its run, or that was made by
+/// `backfill single`, which no range has. `task` in `run` is the task explained.
 fn clear_section(
     alloc: Global,
     paths: &Paths,
@@ -132,7 +133,8 @@ fn clear_section(
     Ok(lines)
 }
 
-/// A heading and the line that clears it for each of these places. `task` in `run` is the one explained.
+/// For each of these places, in order, the heading and the shell line that clear it; none for a place in a run of
+/// `backfill single`. `task` in `run` is the task explained.
 fn clear_sections(
     alloc: Global,
     paths: &Paths,
@@ -165,8 +167,8 @@ fn root_places(alloc: Global, roots: &[Root]) -> Result<Vec<Place>, OutOfMemory>
     Ok(places)
 }
 
-/// The places that clearing lines are given for: those of the first three roots, or the task itself where there are
-/// no roots.
+/// The places to show a clear command for: those of the first three roots, or that of the task explained, `task` in
+/// `run`, where there are no roots.
 fn places_to_clear(
     alloc: Global,
     run: u32,
@@ -181,7 +183,8 @@ fn places_to_clear(
     }
 }
 
-/// Headings and lines that clear the first three roots, or where there are none the task explained, `task` in `run`.
+/// Headings and shell lines that clear the first three roots or, where there are none, the task explained, `task` in
+/// `run`. A place in a run of `backfill single` has none.
 pub(crate) fn clear_lines(
     alloc: Global,
     paths: &Paths,

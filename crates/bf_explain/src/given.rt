@@ -7,10 +7,10 @@ use bf_value::{OutOfMemory, Text, Xval};
 use bf_wording::{add_moved_line, value_text};
 use std::alloc::Global;
 
-/// How many characters of a value stand in a line of its own.
+/// How many characters of a value a line shows.
 const MOST_CHARACTERS: usize = 4_096;
 
-/// Adds the line of an instance's item, as JSON cut to 4,096 characters; nothing where it has none.
+/// Adds the line of an instance's item, as JSON cut to 4,096 characters; adds nothing where `item` is None.
 fn add_item(alloc: Global, lines: &mut Vec<Text>, item: Option<&Xval>) -> Result<(), OutOfMemory>
     ensures { OnOk result (lines.new.items ≡ lines.old.items
         ++ item_lines (option_copied item.entry)) }
@@ -22,8 +22,8 @@ fn add_item(alloc: Global, lines: &mut Vec<Text>, item: Option<&Xval>) -> Result
     add_moved_line(lines, Text::new(format!(in alloc; "item  {value}")?))
 }
 
-/// The line of a pull: the task pulled from, and the value as JSON cut to 4,096 characters, also where it pulled
-/// nothing.
+/// The line of a pull: the task pulled from, and the value as JSON cut to 4,096 characters, or `nothing` where there
+/// was none.
 fn pull_line(alloc: Global, pull: &Pull) -> Result<Text, OutOfMemory>
     ensures { IfOk result (λ text. text ≡ pull_line_of pull.now) }
 {
@@ -32,7 +32,7 @@ fn pull_line(alloc: Global, pull: &Pull) -> Result<Text, OutOfMemory>
     Ok(Text::new(format!(in alloc; "pulled {task}  {value}")?))
 }
 
-/// Adds a line for each of these pulls.
+/// Adds a line for each of these pulls, in order.
 fn add_pulls(alloc: Global, lines: &mut Vec<Text>, pulls: &[Pull]) -> Result<(), OutOfMemory>
     ensures { OnOk result (lines.new.items ≡ lines.old.items ++ map pull_line_of pulls.now) }
 {
@@ -42,8 +42,8 @@ fn add_pulls(alloc: Global, lines: &mut Vec<Text>, pulls: &[Pull]) -> Result<(),
     Ok(())
 }
 
-/// A line for the item of an instance, where it has one, and one for each of its pulls. Values are cut to 4,096
-/// characters.
+/// Lines on what an instance was given: its item, where it has one, and each of its pulls. Values are JSON, cut to
+/// 4,096 characters.
 pub(crate) fn given_lines(
     alloc: Global,
     instance: &InstanceReport,
@@ -56,7 +56,7 @@ pub(crate) fn given_lines(
     Ok(lines)
 }
 
-/// The one line of what an instance pushed, as JSON cut to 4,096 characters; no line where it pushed nothing.
+/// The one line of what an instance pushed, as JSON cut to 4,096 characters. Empty where it pushed nothing.
 pub(crate) fn pushed_lines(
     alloc: Global,
     instance: &InstanceReport,

@@ -11,8 +11,8 @@ use bf_value::{OutOfMemory, Text};
 use jiff::Timestamp;
 use std::alloc::Global;
 
-/// Whether a task in a run has an instance of this map index, -1 for one that isn't expanded; true where `index` is
-/// None.
+/// Whether a task in a run has an instance of this map index: from 0 on where it ran expanded, else only -1. True where
+/// `index` is None.
 pub fn has_index(told: &TaskReport, index: Option<i32>) -> bool
     ensures { result ≡ has_index_in told.now index }
 {
@@ -25,8 +25,8 @@ pub fn has_index(told: &TaskReport, index: Option<i32>) -> bool
     }
 }
 
-/// The place, from 0, of the instance of a map index among those of an expanded task; None for no index or a negative
-/// one.
+/// The place of map index `index` among the instances of an expanded task, from 0; None where `index` is None or
+/// negative.
 pub(crate) fn place_of(index: Option<i32>) -> Option<usize>
     ensures { result ≡ place_in index }
 {
@@ -36,7 +36,7 @@ pub(crate) fn place_of(index: Option<i32>) -> Option<usize>
     }
 }
 
-/// The heading `NAME in the run of T: STATE`.
+/// The heading `NAME in the run of START: STATE`, with the start in UTC.
 fn heading_of(alloc: Global, name: &str, start: Timestamp, state: &str) -> Result<Text, OutOfMemory>
     requires { IsShown start.nanosecond }
     ensures { IfOk result (λ text. text ≡ heading_at name.now start.nanosecond state.now) }
@@ -45,15 +45,15 @@ fn heading_of(alloc: Global, name: &str, start: Timestamp, state: &str) -> Resul
     Ok(Text::new(format!(in alloc; "{name} in the run of {start}: {state}")?))
 }
 
-/// The name of an instance of an expanded task, its place from 0, as `load [2]`.
+/// The name of an expanded task's instance, `place` from 0, such as `load [2]`.
 fn instance_name(alloc: Global, id: &str, place: usize) -> Result<Text, OutOfMemory>
     ensures { IfOk result (λ text. text ≡ instance_name_of id.now place) }
 {
     Ok(Text::new(format!(in alloc; "{id} [{place}]")?))
 }
 
-/// The heading on an instance of an expanded task, its place from 0, in the run that starts at `start`; on the task
-/// with `no_status` where `instance` is None.
+/// The heading of an expanded task's instance, `place` from 0, in the run that starts at `start`. Where `instance` is
+/// None, it names just the task, with `no_status`.
 fn instance_heading(
     alloc: Global,
     id: &str,
@@ -73,8 +73,8 @@ fn instance_heading(
     heading_of(alloc, name.as_str(), start, outcome_word(&ended.outcome))
 }
 
-/// The first line on a task in the run that starts at `start`, with its state, or on its instance at this place where
-/// it is expanded and a place is given.
+/// The heading of a task in the run that starts at `start`, with its state; where the task ran expanded and a place
+/// from 0 is given, the heading of its instance there.
 pub(crate) fn first_heading(
     alloc: Global,
     id: &str,
@@ -96,8 +96,8 @@ pub(crate) fn first_heading(
     }
 }
 
-/// The one instance that is explained: that at `place` of an expanded task, or the only one of another; None where it
-/// isn't there, or a whole expanded task is explained.
+/// The one instance to explain: the instance at `place`, from 0, of a task that ran expanded, or the only instance of
+/// another task. None where the task has no such instance, or ran expanded and `place` is None.
 pub(crate) fn instance_of(told: &TaskReport, place: Option<usize>) -> Option<&InstanceReport>
     ensures { option_copied result ≡ instance_in told.now place }
 {

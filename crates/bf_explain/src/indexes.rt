@@ -10,7 +10,7 @@ use bf_value::{OutOfMemory, Text};
 use bf_xcom::TaskResult;
 use std::alloc::Global;
 
-/// Whether `ended` is given and ended in this state.
+/// Whether an instance ended in the state that this word names, such as `failed`; false where `ended` is None.
 fn has_state(state: &str, ended: Option<&TaskResult>) -> bool
     ensures { result ≡ is_in_state state.now (option_copied ended.entry) }
 {
@@ -20,21 +20,21 @@ fn has_state(state: &str, ended: Option<&TaskResult>) -> bool
     }
 }
 
-/// Whether there is an instance of this map index and it ended in this state.
+/// Whether the instance of map index `index` ended in this state; false where there is no such instance.
 fn has_state_at(state: &str, results: &[TaskResult], index: usize) -> bool
     ensures { result ≡ is_at_index state.now results.now index }
 {
     has_state(state, results.get(index))
 }
 
-/// Whether there is an instance before this map index and it ended in this state.
+/// Whether the instance one map index below `index` ended in this state; false where there is no such instance.
 fn has_state_before(state: &str, results: &[TaskResult], index: usize) -> bool
     ensures { result ≡ is_before_index state.now results.now index }
 {
     index > 0 && has_state_at(state, results, index - 1)
 }
 
-/// Adds the end of a range of map indexes, as `-7`; nothing where the range goes on.
+/// Ends a range of map indexes at `index`, such as `-7`; adds nothing where the range goes on.
 fn push_range_end(text: &mut String, goes_on: bool, index: usize) -> Result<(), OutOfMemory>
     ensures { OnOk result (string_bytes text.new ≡ string_bytes text.old
         ++ range_end goes_on index) }
@@ -45,8 +45,8 @@ fn push_range_end(text: &mut String, goes_on: bool, index: usize) -> Result<(), 
     Ok(())
 }
 
-/// Adds what a map index adds to the ranges of a state: ` 5` where it begins one, `-7` where it ends one of several,
-/// and nothing inside one or where its instance isn't in the state.
+/// Adds what `index` contributes to the ranges of a state: ` 5` where it starts a range, `-7` where it ends one of
+/// several indexes, and nothing inside a range or where its instance isn't in the state.
 fn push_index(
     text: &mut String,
     state: &str,
@@ -67,7 +67,7 @@ fn push_index(
     Ok(())
 }
 
-/// Adds the map indexes of all instances in a state, as ranges such as ` 0-3 5`, a space before each.
+/// Adds the map indexes of all instances in a state as ranges, each after a space, such as ` 0-3 5`.
 fn push_indexes(text: &mut String, state: &str, results: &[TaskResult]) -> Result<(), OutOfMemory>
     ensures { OnOk result (string_bytes text.new ≡ string_bytes text.old
         ++ indexes_text_of state.now results.now) }
@@ -78,15 +78,15 @@ fn push_indexes(text: &mut String, state: &str, results: &[TaskResult]) -> Resul
     Ok(())
 }
 
-/// How many bytes the word of a state has; 0 where `count`, the instances in it, is 0.
+/// The length of a state's word in bytes; 0 where `count`, how many instances are in it, is 0.
 fn state_width(count: u32, state: &str) -> usize
     ensures { result ≡ state_width_of count state.now }
 {
     if count == 0 { 0 } else { state.len() }
 }
 
-/// How many bytes the longest word of the states `success`, `failed` and `skipped` has that some instance is in; 0
-/// for none.
+/// The length in bytes of the longest of the words `success`, `failed` and `skipped` whose state some instance is in; 0
+/// where there is no instance.
 fn states_width(counts: &Counts) -> usize
     ensures { result ≡ states_width_of counts.now }
 {
@@ -96,7 +96,8 @@ fn states_width(counts: &Counts) -> usize
     success.max(failed.max(skipped))
 }
 
-/// The line of a state: its word in a column of `width` bytes, and the map indexes of the instances in it.
+/// The line of a state, such as `failed  2 5-7`: its word, padded to `width` bytes, and the map indexes of its
+/// instances as ranges.
 fn indexes_line(
     alloc: Global,
     width: usize,
@@ -112,7 +113,7 @@ fn indexes_line(
     Ok(Text::new(text))
 }
 
-/// Adds the line of a state with the map indexes of its instances; nothing where `count`, how many these are, is 0.
+/// Adds the line of a state with the map indexes of its instances; adds nothing where `count`, how many they are, is 0.
 fn add_state(
     alloc: Global,
     lines: &mut Vec<Text>,
@@ -130,8 +131,8 @@ fn add_state(
     Ok(())
 }
 
-/// A line for each of `success`, `failed` and `skipped` that some instance is in, with the map indexes of its
-/// instances.
+/// A line for each of the states `success`, `failed` and `skipped`, in this order, with the map indexes of its
+/// instances as ranges; a state without instances has no line.
 pub(crate) fn state_lines(
     alloc: Global,
     results: &[TaskResult],

@@ -9,7 +9,8 @@ use bf_value::{OutOfMemory, Text};
 use jiff::Timestamp;
 use std::alloc::Global;
 
-/// The text of a moment, without `T00:00:00Z` where it ends so.
+/// The date of `moment`, such as `2024-01-25`, where its time is midnight in UTC, else all of `moment`. It is written
+/// as `2024-01-25T06:00:00Z`.
 fn without_midnight(moment: &[u8]) -> &[u8]
     requires long { 10 ≤ length moment.now }
     requires ascii { IsAscii moment.now }
@@ -22,7 +23,8 @@ fn without_midnight(moment: &[u8]) -> &[u8]
     moment
 }
 
-/// The text of a moment, whose time is left out where it is midnight in UTC, as `2024-01-25`.
+/// The text of a moment in UTC, such as `2024-01-25T06:00:00Z`; just the date, such as `2024-01-25`, where its time is
+/// midnight.
 pub(crate) fn short_moment(alloc: Global, moment: Timestamp) -> Result<Text, OutOfMemory>
     requires { IsShown moment.nanosecond }
     ensures { IfOk result (λ text. text ≡ short_moment_of moment.nanosecond) }

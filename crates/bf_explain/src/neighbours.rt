@@ -10,7 +10,7 @@ use bf_reason::Settled;
 use bf_value::{OutOfMemory, Text};
 use std::alloc::Global;
 
-/// Whether `other` is directly downstream of `task`.
+/// Whether task number `other` is directly downstream of task number `task`.
 fn is_downstream(plan: &Plan, task: u32, other: u32) -> bool
     requires { other < length plan.now.dag.tasks }
     ensures { result ≡ is_downstream_in plan.now.dag task other }
@@ -18,7 +18,7 @@ fn is_downstream(plan: &Plan, task: u32, other: u32) -> bool
     is_upstream_of(task, plan.dag().task(other))
 }
 
-/// The tasks directly downstream of a task, in file order.
+/// The numbers of the tasks directly downstream of task number `task`, in file order.
 fn downstreams(alloc: Global, plan: &Plan, task: u32) -> Result<Vec<u32>, OutOfMemory>
     ensures { IfOk result (λ found. found.items ≡ downstreams_of plan.now.dag task) }
 {
@@ -31,8 +31,8 @@ fn downstreams(alloc: Global, plan: &Plan, task: u32) -> Result<Vec<u32>, OutOfM
     Ok(found)
 }
 
-/// Adds the sections on the tasks directly upstream and downstream of a task, with their states in the run of which
-/// `settled` are the tasks; no section where there are none.
+/// Adds the sections `upstream` and `downstream`, with the tasks directly upstream and downstream of a task and their
+/// states. A section without tasks is left out. `settled` are the tasks of the run.
 pub(crate) fn add_neighbours(
     alloc: Global,
     lines: &mut Vec<Text>,

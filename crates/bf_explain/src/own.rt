@@ -12,8 +12,8 @@ use bf_report::{InstanceReport, TaskReport};
 use bf_value::{OutOfMemory, Text};
 use std::alloc::Global;
 
-/// The map indexes of an expanded task's instances, a line for each state; no lines where the task isn't expanded or
-/// only its instance at `place` is explained.
+/// A line for each state of an expanded task's instances, with their map indexes. Empty where the task didn't run
+/// expanded, or just its instance at `place` is explained.
 fn instances_lines(
     alloc: Global,
     told: &Settled<'_>,
@@ -27,7 +27,7 @@ fn instances_lines(
     }
 }
 
-/// The one line on what an instance pushed; no line where it pushed nothing or `instance` is None.
+/// The one line of what an instance pushed. Empty where it pushed nothing or `instance` is None.
 fn optional_pushed_lines(
     alloc: Global,
     instance: Option<&InstanceReport>,
@@ -41,7 +41,7 @@ fn optional_pushed_lines(
     }
 }
 
-/// The lines on what an instance was given; no lines where it was given nothing or `instance` is None.
+/// The lines on what an instance was given. Empty where it was given nothing or `instance` is None.
 fn optional_given_lines(
     alloc: Global,
     instance: Option<&InstanceReport>,
@@ -55,8 +55,8 @@ fn optional_given_lines(
     }
 }
 
-/// Adds the sections on the states of a task's instances and on what the task, or its instance at `place`, pushed and
-/// was given; no section where it has no lines.
+/// Adds the sections `instances`, `pushed` and `given` of a task, or of its instance at `place`, from 0, where one is
+/// given. A section without lines is left out.
 pub(crate) fn add_own_sections(
     alloc: Global,
     lines: &mut Vec<Text>,

@@ -1,7 +1,7 @@
 //! The files that are spoken of.
 use bf_value::Text;
 
-/// The paths of a graph, of a report and of a zone file, as they stood on the line.
+/// The paths of the graph, the report and the zone file, as the command line gave them.
 #[derive(Debug, Drop)]
 pub struct Paths {
     pub graph: Text,

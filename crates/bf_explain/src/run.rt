@@ -29,7 +29,8 @@ fn run_state_word(state: RunState) -> &'static str
     }
 }
 
-/// The first line on a run, without a line feed: its data interval and its state.
+/// The heading of a run, without a line feed, such as `run 2024-03-05T00:00:00Z to 2024-03-06T00:00:00Z: failed`: its
+/// data interval and its state.
 fn run_heading(alloc: Global, run: &RunReport) -> Result<Text, OutOfMemory>
     ensures { IfOk result (λ text. text ≡ run_heading_of run.now) }
 {
@@ -39,7 +40,8 @@ fn run_heading(alloc: Global, run: &RunReport) -> Result<Text, OutOfMemory>
     Ok(Text::new(format!(in alloc; "run {start} to {end}: {state}")?))
 }
 
-/// The one line with how many instances of the tasks in `order` are in each state; no line where there are no tasks.
+/// One line with how many instances of the tasks in `order` are in each state, such as `2 success, 1 failed`. Empty
+/// where `order` is empty. `settled` are the tasks of the run.
 fn counts_lines(
     alloc: Global,
     settled: &[Settled<'_>],
@@ -55,7 +57,8 @@ fn counts_lines(
     one_line(alloc, counts_text(alloc, &counts)?)
 }
 
-/// Those tasks of `order` that have a failed instance, in that order; upstream_failed doesn't count.
+/// The tasks in `order` that have a failed instance, in that order; upstream_failed doesn't count. `settled` are the
+/// tasks of the run.
 fn failed_tasks(
     alloc: Global,
     settled: &[Settled<'_>],
@@ -74,7 +77,8 @@ fn failed_tasks(
         .collect(alloc)
 }
 
-/// Whether a task is upstream_failed or has no status; true where there is no such task.
+/// Whether task number `task` is upstream_failed or has no status; true where `settled`, the tasks of the run, lacks
+/// it.
 fn is_not_tried(settled: &[Settled<'_>], task: u32) -> bool
     ensures { result ≡ is_not_tried_in (value_among settled.now task) }
 {
@@ -84,7 +88,7 @@ fn is_not_tried(settled: &[Settled<'_>], task: u32) -> bool
     }
 }
 
-/// Those tasks of `order` that are upstream_failed or have no status, in that order.
+/// The tasks in `order` that are upstream_failed or have no status, in that order. `settled` are the tasks of the run.
 fn tasks_not_tried(
     alloc: Global,
     settled: &[Settled<'_>],
@@ -99,7 +103,8 @@ fn tasks_not_tried(
         .collect(alloc)
 }
 
-/// Adds the section on the tasks of a run that have a failed instance; nothing where there are none.
+/// Adds the section `failed`, with a line for each task in `order` that has a failed instance; adds nothing where no
+/// task has one. `settled` are the tasks of the run.
 fn add_failed(
     alloc: Global,
     lines: &mut Vec<Text>,
@@ -116,7 +121,8 @@ fn add_failed(
     add_section(alloc, lines, "failed", failed.as_slice())
 }
 
-/// Adds the section on the tasks of a run that are upstream_failed or have no status; nothing where there are none.
+/// Adds the section `not tried`, with a line for each task in `order` that is upstream_failed or has no status; adds
+/// nothing where there is no such task. `settled` are the tasks of the run.
 fn add_not_tried(
     alloc: Global,
     lines: &mut Vec<Text>,
@@ -133,7 +139,7 @@ fn add_not_tried(
     add_section(alloc, lines, "not tried", left.as_slice())
 }
 
-/// The lines that explain a run, of which `settled` are the tasks, listed as in `order`. They have no line feeds.
+/// All lines that explain a run, without line feeds. `settled` are its tasks, listed in the order of `order`.
 fn run_lines(
     alloc: Global,
     plan: &Plan,
@@ -155,8 +161,9 @@ fn run_lines(
     Ok(lines)
 }
 
-/// The text that explains a run: why it has its state, how many instances are in which, and which tasks failed or
-/// weren't tried, listed as in `order`. None of its tasks has more than 1,024 instances.
+/// The text that explains a run: why it has its state, how many instances are in each state, and which tasks failed or
+/// weren't tried. `order` holds the numbers of the tasks to list, at most 20,000, in order; no task has more than 1,024
+/// instances.
 pub fn explain_run(
     alloc: Global,
     plan: &Plan,

@@ -14,7 +14,7 @@ use bf_why::{States, has_instance_in, id_at, no_status_text};
 use bf_wording::{add_line_if, add_lines, name_list, one_line};
 use std::alloc::Global;
 
-/// Whether a task is directly upstream of `other`.
+/// Whether task number `task` is directly upstream of `other`.
 pub(crate) fn is_upstream_of(task: u32, other: &Task) -> bool
     ensures { result ≡ is_upstream_in task other.now }
 {
@@ -25,7 +25,7 @@ pub(crate) fn is_upstream_of(task: u32, other: &Task) -> bool
         .any(|upstream| *upstream == task)
 }
 
-/// Whether a task has a downstream.
+/// Whether any task of the graph is directly downstream of task number `task`.
 fn has_downstream(dag: &Dag, task: u32) -> bool
     ensures { result ≡ list_any (is_upstream_in task) dag.now.tasks }
 {
@@ -35,14 +35,15 @@ fn has_downstream(dag: &Dag, task: u32) -> bool
         .any(|other| is_upstream_of(task, other))
 }
 
-/// Whether a task has no downstream, and an instance of it is failed or upstream_failed.
+/// Whether no task follows `task`, and an instance of it is failed or upstream_failed. `settled` are the tasks of the
+/// run.
 fn is_last_failed(plan: &Plan, settled: &[Settled<'_>], task: u32) -> bool
     ensures { result ≡ (is_last_in plan.now.dag task && has_instance_of settled.now failures task) }
 {
     has_instance_in(settled, States::FAILURES, task) && !has_downstream(plan.dag(), task)
 }
 
-/// Adds the id of a task to `ids` where `holds`.
+/// Adds the id of task number `task` to `ids` where `holds`; adds nothing otherwise.
 fn add_id_if(
     alloc: Global,
     ids: &mut Vec<Text>,
@@ -56,7 +57,8 @@ fn add_id_if(
     add_line_if(alloc, ids, holds, id_at(plan.dag(), task))
 }
 
-/// The ids of those tasks of `order` that have no downstream and an instance failed or upstream_failed.
+/// The ids of the tasks in `order` that no task follows and that have an instance failed or upstream_failed, in that
+/// order. `settled` are the tasks of the run.
 fn last_failed_ids(
     alloc: Global,
     plan: &Plan,
@@ -74,7 +76,7 @@ fn last_failed_ids(
     Ok(ids)
 }
 
-/// The ids of those tasks of `order` that have no status.
+/// The ids of the tasks in `order` that have no status, in that order. `settled` are the tasks of the run.
 fn ids_without_status(
     alloc: Global,
     plan: &Plan,
@@ -92,15 +94,15 @@ fn ids_without_status(
     Ok(ids)
 }
 
-/// The word `is` for one, `are` for several.
+/// `is` for a count of 1, `are` for any other.
 fn is_or_are(count: usize) -> &'static str
     ensures { result.now ≡ is_or_are_of count }
 {
     if count == 1 { "is" } else { "are" }
 }
 
-/// The one sentence that these tasks, which no task follows, are failed or upstream_failed; no sentence where there
-/// are no names.
+/// The one sentence that the tasks of these names, which no task follows, are failed or upstream_failed. Empty where
+/// there are no names.
 fn last_sentence(alloc: Global, names: &[Text]) -> Result<Vec<Text>, OutOfMemory>
     ensures { IfOk result (λ lines. lines.items ≡ last_sentence_of names.now) }
 {
@@ -115,7 +117,7 @@ fn last_sentence(alloc: Global, names: &[Text]) -> Result<Vec<Text>, OutOfMemory
     one_line(alloc, Text::new(text))
 }
 
-/// The one sentence that these tasks have no status; no sentence where there are no names.
+/// The one sentence that the tasks of these names have no status. Empty where there are no names.
 fn blocked_sentence(alloc: Global, names: &[Text]) -> Result<Vec<Text>, OutOfMemory>
     ensures { IfOk result (λ lines. lines.items ≡ blocked_sentence_of names.now) }
 {
@@ -125,8 +127,8 @@ fn blocked_sentence(alloc: Global, names: &[Text]) -> Result<Vec<Text>, OutOfMem
     one_line(alloc, no_status_text(alloc, names)?)
 }
 
-/// Why a run has its state, in sentences. `last` are the ids of the failed or upstream_failed tasks that no task
-/// follows, `blocked` those of the tasks without a status.
+/// Sentences on why a run has its state. `last` are the ids of the failed or upstream_failed tasks that no task
+/// follows, `blocked` the ids of the tasks without a status; where both are empty, one sentence says so.
 fn run_why(alloc: Global, last: &[Text], blocked: &[Text]) -> Result<Vec<Text>, OutOfMemory>
     ensures { IfOk result (λ lines. lines.items ≡ run_why_of last.now blocked.now) }
 {
@@ -142,7 +144,7 @@ fn run_why(alloc: Global, last: &[Text], blocked: &[Text]) -> Result<Vec<Text>, 
     Ok(lines)
 }
 
-/// Why a run, of which `settled` are the tasks, has its state, in sentences that name tasks as in `order`.
+/// Sentences on why a run has its state, which name tasks in the order of `order`. `settled` are the run's tasks.
 pub(crate) fn run_why_lines(
     alloc: Global,
     plan: &Plan,

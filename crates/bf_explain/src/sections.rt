@@ -6,14 +6,14 @@ use bf_value::{OutOfMemory, Text};
 use bf_wording::add_line;
 use std::alloc::Global;
 
-/// A line behind two spaces.
+/// The line with two spaces before it.
 fn indented(alloc: Global, line: &Text) -> Result<Text, OutOfMemory>
     ensures { IfOk result (λ text. text ≡ indented_of line.now) }
 {
     Ok(Text::new(format!(in alloc; "  {line}")?))
 }
 
-/// Adds lines, each behind two spaces.
+/// Adds the lines of `more`, each indented by two spaces.
 fn add_indented(alloc: Global, lines: &mut Vec<Text>, more: &[Text]) -> Result<(), OutOfMemory>
     ensures { OnOk result (lines.new.items ≡ lines.old.items ++ map indented_of more.now) }
 {
@@ -23,7 +23,7 @@ fn add_indented(alloc: Global, lines: &mut Vec<Text>, more: &[Text]) -> Result<(
     Ok(())
 }
 
-/// Adds a heading and these lines below it, each behind two spaces; nothing where there are no lines.
+/// Adds `heading` and below it the lines of `more`, each indented by two spaces; adds nothing where `more` is empty.
 pub(crate) fn add_section(
     alloc: Global,
     lines: &mut Vec<Text>,
@@ -39,7 +39,7 @@ pub(crate) fn add_section(
     add_indented(alloc, lines, more)
 }
 
-/// The lines as one text, each with a line feed behind it.
+/// The lines as one text, each ended by a line feed.
 pub(crate) fn lines_text(alloc: Global, lines: &[Text]) -> Result<String, OutOfMemory>
     ensures { IfOk result (λ text. string_bytes text ≡ lines_text_of lines.now) }
 {

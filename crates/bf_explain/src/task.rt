@@ -25,8 +25,9 @@ use bf_why::id_at;
 use bf_wording::{add_lines, one_line};
 use std::alloc::Global;
 
-/// The heading on a task in a run, or on its instance at `place`, and the section on why it has its state. `told_run`
-/// is the run, `settled` its tasks and `told` the task; `roots` are where its state began.
+/// The heading of task number `task` in a run, or of its instance at `place` from 0, and the section `why` below it.
+/// `told_run` is run number `run` of the report, `settled` its tasks, `told` this task, and `roots` the places where
+/// its state began.
 fn heading_and_why_lines(
     alloc: Global,
     plan: &Plan,
@@ -57,8 +58,8 @@ fn heading_and_why_lines(
     Ok(lines)
 }
 
-/// The lines that explain a task, or its instance of this map index, in a run, without line feeds. `told_run` is the
-/// run, `settled` its tasks and `told` the task.
+/// All lines that explain task number `task` in run number `run`, or only its instance of map index `index` where one
+/// is given, without line feeds. `told_run` is that run of the report, `settled` its tasks and `told` this task.
 fn explanation_lines(
     alloc: Global,
     paths: &Paths,
@@ -105,9 +106,10 @@ fn explanation_lines(
     Ok(lines)
 }
 
-/// The text that explains a task in a run, or its instance of this map index: why it has its state, what it was
-/// given, how its last try is run by hand, and how it is cleared over the files of `paths`. `told_run` is the run.
-/// Each run has the tasks of the graph, and none of these more than 1,024 instances.
+/// The text that explains a task in run number `run`, or only its instance of map index `index` where one is given: why
+/// it has its state, what it pushed and was given, how its last try is run by hand, and which command clears it.
+/// `paths` are the files that this command names, and `told_run` is the run. Each run has the plan's tasks, and no task
+/// has more than 1,024 instances.
 pub fn explain_task(
     alloc: Global,
     paths: &Paths,

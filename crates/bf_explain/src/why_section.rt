@@ -17,7 +17,7 @@ use bf_why::why_lines;
 use bf_wording::add_lines;
 use std::alloc::Global;
 
-/// The run before `run` in a report; None before the first.
+/// The run before run number `run` of a report; None for run 0, and where the report has no run before it.
 fn run_before(report: &Report, run: u32) -> Option<&RunReport>
     ensures { option_copied result ≡ run_before_of report.now run }
 {
@@ -28,8 +28,8 @@ fn run_before(report: &Report, run: u32) -> Option<&RunReport>
     }
 }
 
-/// The tasks of a run; none where `run` is None.
-fn tasks_of(run: Option<&RunReport>) -> &[TaskReport]
+/// The tasks of a run; empty where `run` is None.
+fn tasks_or_none(run: Option<&RunReport>) -> &[TaskReport]
     ensures { result.now ≡ tasks_in_run (option_copied run.entry) }
 {
     match run {
@@ -38,7 +38,8 @@ fn tasks_of(run: Option<&RunReport>) -> &[TaskReport]
     }
 }
 
-/// The roots of the state of a task in a run; none where the report has it, as `told`, as one that ran.
+/// The roots of the state of task number `task` in run number `run`: the tasks in runs where it began. Empty where
+/// `told`, its report, says that it ran, since its state began with its own tries.
 pub(crate) fn roots_if_untried(
     alloc: Global,
     plan: &Plan,
@@ -60,8 +61,8 @@ pub(crate) fn roots_if_untried(
     }
 }
 
-/// Why a task, or its instance at `place`, has its state in a run, and which of these roots are in another run or not
-/// directly upstream, in sentences. `settled` are the tasks of the run and `told` is the task.
+/// Sentences on why a task, or its instance at `place` from 0, has its state in run number `run`, and on those of
+/// `roots` that lie in another run or not directly upstream. `settled` are the tasks of the run and `told` is the task.
 pub(crate) fn why_and_where(
     alloc: Global,
     plan: &Plan,
@@ -81,7 +82,7 @@ pub(crate) fn why_and_where(
         ++ began_lines_of plan.now.dag report.now run task roots.now) }
 {
     let before = run_before(report, run);
-    let earlier = settled_tasks(alloc, tasks_of(before))?;
+    let earlier = settled_tasks(alloc, tasks_or_none(before))?;
     let cause = cause_at(plan, run as usize, settled, &earlier, task);
     let mut lines = why_lines(
         alloc, plan, settled, before, &earlier, task, cause, told, place,

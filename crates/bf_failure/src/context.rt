@@ -9,7 +9,7 @@ use bf_plan::{Dag, Plan, Task};
 use bf_value::JobName;
 use bf_words::JobContext;
 
-/// The context of a try with this name, of this task in a run with this data interval.
+/// Makes the context of the try of this name: of `task`, in a run with the data interval `run`.
 fn context_in<'a>(dag: &'a Dag, task: &'a Task, run: &Interval, name: JobName) -> JobContext<'a>
     requires { IsShownInterval run.now }
     ensures { IsContext dag.entry.now task.entry.now run.now name result }
@@ -24,7 +24,7 @@ fn context_in<'a>(dag: &'a Dag, task: &'a Task, run: &Interval, name: JobName) -
     }
 }
 
-/// The data interval of the run with a number, from 0; None where there is no such run.
+/// Gives the data interval of the run with this number, from 0; None where there is no such run.
 fn run_at(runs: &Runs, run: u32) -> Option<&Interval>
     ensures run { option_copied result ≡ slice_get runs.now run }
     ensures shown { IfSome result (λ interval. IsShownInterval interval.now) }
@@ -32,7 +32,7 @@ fn run_at(runs: &Runs, run: u32) -> Option<&Interval>
     runs.intervals().get(run as usize)
 }
 
-/// The context of a try by its name; None where there is no such task or run.
+/// Makes the context of the try of this name; None where the plan has no such task, or there is no such run.
 pub fn context_of<'a>(plan: &'a Plan, runs: &Runs, name: JobName) -> Option<JobContext<'a>>
     ensures some { IfSome result (IsContextOf plan.entry.now.dag runs.now name) }
     ensures none { IfNone result ((slice_get plan.entry.now.dag.tasks name.task ≡ None)

@@ -5,7 +5,7 @@ use bf_try::{Done, RunnerFault, TaskRunner, Ticket};
 use bf_value::{OutOfMemory, Text};
 use std::alloc::Global;
 
-/// What is known of how a program ended, beside its raw answer.
+/// What is known of how a program ended, or why it wasn't started, beside its raw answer.
 #[derive(Debug, Drop)]
 pub enum Detail {
     /// The number of the signal that ended it.
@@ -15,7 +15,7 @@ pub enum Detail {
 }
 
 impl Detail {
-    /// A copy of the detail.
+    /// Copies the detail.
     pub fn copy(&self, alloc: Global) -> Result<Detail, OutOfMemory>
         ensures { IfOk result (λ detail. detail ≡ self.now) }
     {
@@ -26,10 +26,10 @@ impl Detail {
     }
 }
 
-/// A runner that knows more of a try than its raw answer says.
+/// A runner that can say more of a try than its raw answer does.
 pub trait DetailedRunner: TaskRunner {
-    /// Runs the try of a ticket, as `run` does, and hands out what is known beside its answer; nothing is claimed of
-    /// this detail. Where there is no answer the ticket is handed back.
+    /// Runs the try of a ticket, as `run` does, and gives its answer with what else is known of the try; contracts
+    /// claim nothing of that. At a fault the ticket comes back.
     fn run_in_detail(&self, ticket: Ticket) -> Result<(Done, Option<Detail>), (Ticket, RunnerFault)>
         ensures ok { IfOk result (λ d. (d.0.name ≡ ticket.name) × (d.0.given ≡ ticket.given)
             × Self.may_answer self.now d.0.name d.0.given d.0.raw) }

@@ -6,34 +6,34 @@ use crate::detail::Detail;
 use bf_value::Text;
 use std::fmt;
 
-/// Why a try failed. A program whose output is too long, or can't be read, is read no further, and is mostly ended by a signal
-/// for it: then the output is why.
+/// Why a try failed. A program whose output is too long or can't be read is read no further, and mostly dies of a
+/// signal for that: then the output counts as the cause.
 #[derive(Debug, Drop)]
 pub enum Failure {
     /// The program ended with this exit status, which is neither 0 nor 99.
     Status(i32),
-    /// A signal ended it. The number, where it is known.
+    /// A signal ended the program; its number, if known.
     Signal(Option<i32>),
-    /// It wasn't started. The system's words, where they are known.
+    /// The program wasn't started; the system's words for why, if known.
     NotStarted(Option<Text>),
-    /// It wrote more than 1,048,576 bytes to its standard output.
+    /// The program wrote more than 1,048,576 bytes to its standard output.
     TooMuchOutput,
-    /// Its standard output couldn't be read.
+    /// The program's standard output couldn't be read.
     UnreadOutput,
-    /// Its last line isn't UTF-8.
+    /// The last line of output isn't UTF-8.
     NotUtf8,
-    /// The compact JSON text of what it pushed has more than 65,536 bytes.
+    /// The pushed value's compact JSON has more than 65,536 bytes.
     LongValue,
-    /// It is a branch, and pushed this value, which doesn't name direct downstreams. The value's compact JSON text.
+    /// The task is a branch, and pushed this value, as compact JSON, which names no tasks directly downstream.
     NoDownstream(Text),
-    /// Tasks are expanded over it, and it pushed no list of at most 1,024 items. The id of the first of these tasks.
+    /// The task with this id, the first of those expanded over the failed one, would have no items: what was pushed is
+    /// no list, or one of more than 1,024 items.
     NoItems(Text),
 }
 
 impl Failure {
-    /// The failure with what is known beside the raw answer: the number of the signal that ended the program, or the
-    /// system's words for why it wasn't started. Unchanged where neither is wanting, or the detail is of the other
-    /// kind.
+    /// Adds the number of the signal that ended the program, or the system's words for why it wasn't started, where the
+    /// failure lacks it and `detail` has it; else gives the failure unchanged.
     pub fn with_detail(self, detail: Option<Detail>) -> Failure
         ensures { result ≡ detailed self detail }
     {
@@ -53,6 +53,7 @@ impl fmt::Display for Failure {
 
     ghost output = { λ failure. Some (failure_text failure) };
 
+    /// Writes why the try failed, such as `exit status 3` or `killed by signal 9`.
     fn fmt<W: fmt::Write>(&self, f: &mut fmt::Formatter<W>) -> fmt::Result {
         match self {
             Failure::Status(status) => write!(f, "exit status {status}"),

@@ -14,10 +14,10 @@ use bf_try::{Exit, LONGEST_VALUE, Line, MOST_ITEMS, Raw};
 use bf_value::{LineFault, OutOfMemory, Text, Xval, read_line, text_of};
 use std::alloc::Global;
 
-/// The status by which a try says that it is skipped.
+/// The exit status by which a program says that its try is skipped.
 const SKIP_STATUS: i32 = 99;
 
-/// Whether the JSON text of what is pushed, if anything is, has at most `LONGEST_VALUE` bytes.
+/// Answers whether the pushed value's compact JSON has at most `LONGEST_VALUE` bytes; true for None.
 fn is_short_value(value: &Option<Xval>) -> bool
     ensures { result ≡ is_short_value_in value.now }
 {
@@ -27,7 +27,7 @@ fn is_short_value(value: &Option<Xval>) -> bool
     }
 }
 
-/// Whether what is pushed is a list of at most `MOST_ITEMS` items.
+/// Answers whether the pushed value is a list of at most `MOST_ITEMS` items; false for None.
 fn is_list_of_items(value: &Option<Xval>) -> bool
     ensures { result ≡ is_list_of_items_in value.now }
 {
@@ -37,14 +37,14 @@ fn is_list_of_items(value: &Option<Xval>) -> bool
     }
 }
 
-/// Whether a task is expanded over `source`.
+/// Answers whether `task` is expanded over the task with the number `source`.
 fn is_expanded_over(task: &Task, source: u32) -> bool
     ensures { result ≡ is_source task.now.expand source }
 {
     task.expand == Some(source)
 }
 
-/// The first task, in the order of the file, that is expanded over `source`; None where none is.
+/// Gives the first task, in file order, that is expanded over the task with the number `source`; None where none is.
 fn first_expanded_over(dag: &Dag, source: u32) -> Option<&Task>
     ensures { option_copied result ≡ first_expanded dag.now source }
 {
@@ -54,7 +54,8 @@ fn first_expanded_over(dag: &Dag, source: u32) -> Option<&Task>
         .find(|task| is_expanded_over(task, source))
 }
 
-/// The id of the first task, in the order of the file, that is expanded over `source`; empty where none is.
+/// Gives the id of the first task, in file order, that is expanded over the task with the number `source`; empty where
+/// none is.
 fn id_of_first_expanded_over(alloc: Global, dag: &Dag, source: u32) -> Result<Text, OutOfMemory>
     ensures { IfOk result (λ id. id ≡ id_in (first_expanded dag.now source)) }
 {
@@ -64,7 +65,7 @@ fn id_of_first_expanded_over(alloc: Global, dag: &Dag, source: u32) -> Result<Te
     }
 }
 
-/// Whether a task of the graph is expanded over this one.
+/// Answers whether some task is expanded over the task with the number `source`.
 fn is_source_of_some(dag: &Dag, source: u32) -> bool
     ensures { result ≡ list_any (λ t. is_source t.expand source) dag.now.tasks }
 {
@@ -74,7 +75,7 @@ fn is_source_of_some(dag: &Dag, source: u32) -> bool
         .any(|task| is_expanded_over(task, source))
 }
 
-/// Whether a task of the graph is expanded over this one, which itself isn't expanded.
+/// Answers whether some task is expanded over this one, which itself isn't expanded.
 fn gives_items(dag: &Dag, task: u32) -> bool
     requires { task < length dag.now.tasks }
     ensures { result ≡ gives_items_in dag.now task }
@@ -82,7 +83,7 @@ fn gives_items(dag: &Dag, task: u32) -> bool
     dag.task(task).expand.is_none() && is_source_of_some(dag, task)
 }
 
-/// Whether a task is a branch and pushes something else than names of its direct downstreams.
+/// Answers whether the task is a branch and the pushed value isn't one that names tasks directly downstream of it.
 fn names_no_downstream(plan: &Plan, task: u32, value: &Option<Xval>) -> bool
     ensures { result ≡ (is_branch_in (task_of plan.now.dag task)
         && not (names_downstreams_in (shape_of plan.now.dag) task value.now)) }
@@ -90,7 +91,8 @@ fn names_no_downstream(plan: &Plan, task: u32, value: &Option<Xval>) -> bool
     plan.dag().is_branch(task) && !names_downstreams(plan.graph(), task, value.as_ref())
 }
 
-/// Whether a task is expanded over this one, and what is pushed is no list of items.
+/// Answers whether the task gives items to others (`gives_items`) and the pushed value isn't a list of at most
+/// `MOST_ITEMS`.
 fn is_no_list_of_items(plan: &Plan, task: u32, value: &Option<Xval>) -> bool
     requires { task < length plan.now.dag.tasks }
     ensures { result ≡ (gives_items_in plan.now.dag task && not (is_list_of_items_in value.now)) }
@@ -98,7 +100,7 @@ fn is_no_list_of_items(plan: &Plan, task: u32, value: &Option<Xval>) -> bool
     gives_items(plan.dag(), task) && !is_list_of_items(value)
 }
 
-/// The compact JSON text of a value; empty where there is none.
+/// Gives a value's compact JSON; empty for None.
 fn json_of(alloc: Global, value: &Option<Xval>) -> Result<Text, OutOfMemory>
     ensures { IfOk result (λ text. text ≡ text_in value.now) }
 {
@@ -108,7 +110,7 @@ fn json_of(alloc: Global, value: &Option<Xval>) -> Result<Text, OutOfMemory>
     }
 }
 
-/// Why a try of the task with status 0 that pushes this fails; None where the task may push it.
+/// Finds why a try of the task that ended with status 0 and pushed this value fails; None where it doesn't fail.
 fn find_failure_in_value(
     alloc: Global,
     plan: &Plan,
@@ -130,7 +132,7 @@ fn find_failure_in_value(
     Ok(None)
 }
 
-/// Why a try of the task with status 0 fails whose output ends with this line; None where it doesn't fail.
+/// Finds why a try of the task that ended with status 0 and this last line of output fails; None where it doesn't fail.
 fn find_failure_in_line(
     alloc: Global,
     plan: &Plan,
@@ -147,8 +149,8 @@ fn find_failure_in_line(
     }
 }
 
-/// Why a try of the task whose program ended so, with this last line of output, fails; None where it is skipped or
-/// succeeds.
+/// Finds why a try of the task fails, from how its program ended and its last line of output; None where the try
+/// succeeds or is skipped.
 fn find_failure_in_exit(
     alloc: Global,
     plan: &Plan,
@@ -169,8 +171,8 @@ fn find_failure_in_exit(
     }
 }
 
-/// Why a raw answer of a try of the task is graded as failed, by the first cause in the order of grading; None where
-/// it is skipped, or a success. What is known beside the raw answer is left open (`Failure::with_detail`).
+/// Finds why a try of the task with this raw answer fails: the first cause in the order of grading. None where the try
+/// succeeds or is skipped. What a raw answer doesn't tell is left to `Failure::with_detail`.
 #[tactic(auto, unfolding(crate::specs::Failures::failure_of))]
 pub fn find_failure(
     alloc: Global,

@@ -9,8 +9,8 @@ use bf_value::OutOfMemory;
 use bf_words::JobContext;
 use std::alloc::Global;
 
-/// The ending of the log that tells more of a failure: `.err` for an exit status, a signal or a program that wasn't
-/// started, else `.out`.
+/// Gives the ending of the log that tells more of this failure: `.err` for an exit status, a signal or a program that
+/// wasn't started, else `.out`.
 fn log_ending(failure: &Failure) -> &'static str
     ensures { result.now ≡ log_ending_of failure.now }
 {
@@ -20,7 +20,8 @@ fn log_ending(failure: &Failure) -> &'static str
     }
 }
 
-/// The words `, see PATH` for the log of a failed try below the folder `logs`; empty where no logs are kept.
+/// Makes the words `, see PATH` that point to the log of a failed try below the folder `logs`; empty where no logs are
+/// kept.
 fn log_hint_text(
     alloc: Global,
     logs: Option<&str>,
@@ -38,7 +39,7 @@ fn log_hint_text(
     Ok(format!(in alloc; ", see {path}")?)
 }
 
-/// The name of a try, as `load 2024-02-14T00:00:00Z index 2 try 1`; without the index for an unmapped task.
+/// Spells a try as `load 2024-02-14T00:00:00Z index 2 try 1`, without the index for a task that isn't expanded.
 pub fn try_text(alloc: Global, context: &JobContext<'_>) -> Result<String, OutOfMemory>
     ensures { IfOk result (λ text. string_bytes text ≡ try_text_of context.now) }
 {
@@ -51,8 +52,8 @@ pub fn try_text(alloc: Global, context: &JobContext<'_>) -> Result<String, OutOf
     Ok(format!(in alloc; "{task} {run}{index} try {attempt}")?)
 }
 
-/// The line that is told of a failed try, with its line feed, as `failed: load 2024-02-14T00:00:00Z index 2 try 1:
-/// exit status 3, see PATH`; the path is below the folder `logs`, and without that there is none.
+/// Makes the line for a failed try, with its line feed, in the form `failed: load 2024-02-14T00:00:00Z index 2 try 1:
+/// exit status 3, see PATH`. The path is that of a log below the folder `logs`, and is left out for None.
 pub fn failed_line(
     alloc: Global,
     logs: Option<&str>,

@@ -6,7 +6,7 @@ use bf_value::OutOfMemory;
 use bf_words::JobContext;
 use std::alloc::Global;
 
-/// A map index between the texts `before` and `behind`; empty for the instance of an unmapped task.
+/// Gives a map index between the texts `before` and `behind`; empty for -1, the index of a task that isn't expanded.
 pub(crate) fn index_text(
     alloc: Global,
     before: &str,
@@ -21,8 +21,8 @@ pub(crate) fn index_text(
     Ok(format!(in alloc; "{before}{index}{behind}")?)
 }
 
-/// The path of a log of a try below the folder of logs, as `FOLDER/dag=ID/run=MOMENT/task=ID/try=N.out` for the
-/// ending `.out`; of an instance of an expanded task the last part is `index=I,try=N.out`.
+/// Makes the path of a try's log below `folder`: `FOLDER/dag=ID/run=MOMENT/task=ID/try=N.out` for the ending `.out`.
+/// For an instance of an expanded task the last part is `index=I,try=N.out`.
 pub fn log_path(
     alloc: Global,
     folder: &str,

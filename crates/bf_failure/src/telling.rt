@@ -14,8 +14,8 @@ use bf_value::OutOfMemory;
 use std::alloc::Global;
 use std::marker::Model;
 
-/// Hands each try on to a runner, and tells the line of each that fails, as it ends, where there is somebody to tell. Where memory is
-/// wanting for a line nothing is told, and the answer is the same.
+/// A runner that hands each try on to another runner and tells its teller, if it has one, of each that fails. At want
+/// of memory for a line it tells nothing; answers are the same either way.
 #[derive(Drop)]
 pub struct Telling<'a, R: DetailedRunner + Drop, T: Teller + Drop> {
     alloc: Global,
@@ -50,8 +50,8 @@ impl<'a, R: DetailedRunner + Drop, T: Teller + Drop> Model for Telling<'a, R, T>
 }
 
 impl<'a, R: DetailedRunner + Drop, T: Teller + Drop> Telling<'a, R, T> {
-    /// A runner round `runner`, for the runs of a plan, that tells `teller`, if there is one, of each failed try. Its
-    /// lines name the try's log below the folder `logs`, and none where no logs are kept.
+    /// Makes a runner that hands tries on to `runner` and tells `teller`, if there is one, of each that fails. The
+    /// lines name the try's log below the folder `logs`; they name none where that is None.
     pub fn new(
         alloc: Global,
         plan: &'a Plan,
@@ -80,15 +80,15 @@ impl<'a, R: DetailedRunner + Drop, T: Teller + Drop> Telling<'a, R, T> {
         }
     }
 
-    /// The runner that tries are handed on to.
+    /// Gives the runner that tries are handed on to.
     pub fn runner(&self) -> &R
         ensures { result.now ≡ self.now.runner }
     {
         &self.runner
     }
 
-    /// Tells the line of an answered try that has failed; nothing where it hasn't, or its task or run isn't there.
-    /// `detail` is what is known beside the answer. No clause says so.
+    /// Tells the line of an answered try that failed; does nothing where it didn't fail, or its task or run doesn't
+    /// exist. `detail` is what is known beside the answer. No contract covers this.
     fn tell(&self, teller: &T, done: &Done, detail: Option<Detail>) -> Result<(), OutOfMemory>
         requires teller { self.now.teller ≡ Some teller.now }
         requires may { R.may_answer self.now.runner done.now.name done.now.given done.now.raw }
@@ -111,7 +111,7 @@ impl<'a, R: DetailedRunner + Drop, T: Teller + Drop> Telling<'a, R, T> {
     }
 }
 
-/// A copy of a detail, if there is one. Contracts say nothing of it.
+/// Copies a detail, if there is one. No contract covers this.
 fn copy_detail(alloc: Global, detail: &Option<Detail>) -> Result<Option<Detail>, OutOfMemory> {
     match detail {
         Some(detail) => Ok(Some(detail.copy(alloc)?)),
@@ -124,7 +124,7 @@ impl<'a, R: DetailedRunner + Drop, T: Teller + Drop> TaskRunner for Telling<'a, 
 
     ghost may_give_up = { λ s n g. R.may_give_up s.runner n g };
 
-    /// Has the runner make the try, and tells its line where it fails.
+    /// Has the inner runner make the try, and tells its line where it fails.
     fn run(&self, ticket: Ticket) -> Result<Done, (Ticket, RunnerFault)> {
         let (done, _) = self.run_in_detail(ticket)?;
         Ok(done)
@@ -132,7 +132,7 @@ impl<'a, R: DetailedRunner + Drop, T: Teller + Drop> TaskRunner for Telling<'a, 
 }
 
 impl<'a, R: DetailedRunner + Drop, T: Teller + Drop> DetailedRunner for Telling<'a, R, T> {
-    /// Has the runner make the try, tells its line where it fails, and gives what the runner knows beside the answer.
+    /// Has the inner runner make the try, tells its line where it fails, and gives what that runner gave.
     fn run_in_detail(
         &self,
         ticket: Ticket,

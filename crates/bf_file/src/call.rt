@@ -1,18 +1,18 @@
 //! What is done to put a new file in the place of another.
 use bf_value::{Sequence, Text};
 
-/// A call that was made of a new file, and went well.
+/// A call on a new file that succeeded.
 #[derive(Drop)]
 pub enum Call {
-    /// These bytes were written to it, behind what stood there.
+    /// These bytes were written behind what the file held.
     Wrote(Sequence<u8>),
-    /// The disk has all that was written.
+    /// All that was written is on the disk.
     Synced,
-    /// It took the other's place.
+    /// The file took the place of the one at its path.
     Renamed,
 }
 
-/// A path that was given a new file, and all calls that were made of that, the rename among them.
+/// A path that a new file was put at, and all calls made on that file, with the rename last.
 #[derive(Drop)]
 pub struct Placed {
     pub path: Text,

@@ -5,10 +5,10 @@ use std::alloc::AllocError;
 use std::io;
 use std::io::ErrorKind;
 
-/// Why no new file can take a path's place.
+/// Why no new file could be put at a path.
 #[derive(Clone, Copy, Debug, PartialEq, Eq)]
 pub enum ReplaceFault {
-    /// The path is that of a folder or a device, its folder isn't there, or the system refuses a call.
+    /// A folder or a device stands at the path, the folder of the path doesn't exist, or a call of the system failed.
     CannotReplace,
     OutOfMemory,
 }
@@ -18,6 +18,7 @@ impl From<AllocError> for ReplaceFault {
 
     ghost from_gives = { λ _ e. e ≡ OutOfMemory };
 
+    /// Gives `OutOfMemory`.
     fn from(_e: AllocError) -> ReplaceFault {
         ReplaceFault::OutOfMemory
     }
@@ -32,6 +33,7 @@ impl From<io::Error> for ReplaceFault {
     ghost from_gives = { λ error fault. (error_kind error ≡ NoMemory → fault ≡ OutOfMemory)
         × (error_kind error ≢ NoMemory → fault ≡ CannotReplace) };
 
+    /// Gives `OutOfMemory` for an error of that kind, else `CannotReplace`.
     fn from(error: io::Error) -> ReplaceFault {
         match error.kind() {
             ErrorKind::OutOfMemory => ReplaceFault::OutOfMemory,

@@ -8,9 +8,9 @@ use crate::fault::ReplaceFault;
 use crate::replacement::Replacement;
 use std::alloc::Global;
 
-/// Where files are replaced, one after another. Contracts see which paths were given new files, and by which calls,
-/// where it tells them; for which path a new file was begun last; and whether a call of it failed, or one of a new
-/// file that it took away.
+/// Replaces files, one after another. Contracts see, where the folder tells them, which paths got new files and by
+/// which calls; the path of the last `begin_replacement`; and whether a call failed, on the folder or on a new file
+/// that it discarded.
 pub trait Folder {
     type New: Replacement + Drop;
 
@@ -20,7 +20,8 @@ pub trait Folder {
 
     ghost failed: { Self → Bool };
 
-    /// Makes a new, empty file beside the one at a path, or gets ready to, and remembers the path for `rename`.
+    /// Makes an empty new file beside the one at a path, or gets ready to, and remembers the path for `rename`. Err
+    /// where that can't be done, or at want of memory; no path gets a new file yet.
     fn begin_replacement(&mut self, alloc: Global, path: &str) -> Result<Self::New, ReplaceFault>
         ensures begun { OnOk result (begun self.new ≡ Some path.now) }
         ensures empty { IfOk result (λ new.
@@ -28,14 +29,15 @@ pub trait Folder {
         ensures same { placed self.new ≡ placed self.old }
         ensures failed { failed self.new ≡ failed_by (failed self.old) result };
 
-    /// Has a new file take the place of the one at the path last given to `begin_replacement`, in one step.
+    /// Puts a new file at the path last given to `begin_replacement`, in one step. At an Err the path holds what it
+    /// held.
     fn rename(&mut self, new: Self::New) -> Result<(), ReplaceFault>
         ensures placed { OnOk result (placed self.new
             ≡ placed_with (placed self.old) (begun self.old) (Self.New.calls new)) }
         ensures same { OnErr result (placed self.new ≡ placed self.old) }
         ensures failed { failed self.new ≡ failed_by (failed self.old) result };
 
-    /// Removes a new file that isn't wanted. The file at the path stays.
+    /// Removes a new file that isn't wanted. The file at the path stays as it was.
     fn discard(&mut self, new: Self::New)
         ensures same { placed self.new ≡ placed self.old }
         ensures failed { failed self.new ≡ (Self.New.failed new || failed self.old) };

@@ -10,12 +10,12 @@ use crate::replacement::Replacement;
 use bf_device::{Halt, Write};
 use std::marker::Model;
 
-/// What is written to a new file. It is a device.
+/// A device that writes to a new file.
 #[derive(Drop)]
 pub struct Page<N: Replacement + Drop> {
     new: N,
     failures: u64,
-    /// Why the last write failed that did.
+    /// Why the last failed write failed.
     fault: ReplaceFault,
 }
 
@@ -36,7 +36,7 @@ impl<N: Replacement + Drop> Model for Page<N> {
 }
 
 impl<N: Replacement + Drop> Page<N> {
-    /// A page over a new file, to which nothing but writes came.
+    /// Makes a page over a new file that was at most written to.
     pub fn new(new: N) -> Page<N>
         requires { only_writes (N.calls new) ≡ true }
         ensures calls { result.calls ≡ N.calls new }
@@ -73,8 +73,8 @@ impl<N: Replacement + Drop> Write for Page<N> {
 
     ghost failures = { λ p. p.failures };
 
-    /// Writes a first part of the bytes to the new file, and gives its length; the fault of a write that fails is
-    /// kept.
+    /// Writes a first part of the bytes to the new file, and gives its length. `Failed` where that fails; the page
+    /// keeps the cause.
     #[tactic(auto, using(crate::proofs::Writing::wrote_text, crate::proofs::Writing::only_more, crate::proofs::Writing::took_some))]
     fn write(&mut self, bytes: &[u8]) -> Result<usize, Halt> {
         match self.new.write(bytes) {
@@ -88,8 +88,8 @@ impl<N: Replacement + Drop> Write for Page<N> {
     }
 }
 
-/// Syncs the new file of a page, and has it take the place of the file at the path last given to `begin_replacement`.
-/// Where either fails, the path holds what it held, and the new file is removed.
+/// Syncs a page's new file and puts it at the path last given to `begin_replacement`. At an Err the path holds what it
+/// held; where the sync failed, the new file is removed.
 pub fn replace_by_page<F: Folder>(folder: &mut F, page: Page<F::New>) -> Result<(), ReplaceFault>
     ensures replaced { OnOk result (HasReplacedBy (F.placed folder.old) (F.placed folder.new)
         (F.begun folder.old) (text_on page)) }
@@ -106,7 +106,7 @@ pub fn replace_by_page<F: Folder>(folder: &mut F, page: Page<F::New>) -> Result<
     }
 }
 
-/// Removes the new file of a page, and gives the fault of the last write that failed, `CannotReplace` where none did.
+/// Removes a page's new file, and gives the cause of the last failed write, `CannotReplace` where none failed.
 pub fn discard_page<F: Folder>(folder: &mut F, page: Page<F::New>) -> ReplaceFault
     ensures same { F.placed folder.new ≡ F.placed folder.old }
     ensures failed { HasHalted 0 page.failures 0 0 → F.failed folder.new ≡ true }

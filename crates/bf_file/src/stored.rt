@@ -9,7 +9,7 @@ use crate::replacement::Replacement;
 use bf_value::{Sequence, Text};
 use std::alloc::Global;
 
-/// A new file in memory, which is the calls that were made of it and went well.
+/// A new file in memory. It keeps the calls on it that succeeded.
 #[derive(Drop)]
 pub struct StoredNew {
     alloc: Global,
@@ -17,8 +17,8 @@ pub struct StoredNew {
     pub failed: bool,
 }
 
-/// A folder in memory, which tells all: that a folder can do so and keep the clauses of `Folder` is proved of it. A
-/// call that finds no memory has failed.
+/// A folder in memory, which tells all that was done. It shows that the clauses of `Folder` can be kept. A call fails
+/// only at want of memory, or for a rename before any file was begun.
 #[derive(Drop)]
 pub struct StoredFolder {
     pub placed: Sequence<Placed>,
@@ -27,7 +27,7 @@ pub struct StoredFolder {
 }
 
 impl StoredFolder {
-    /// A folder in memory, in which no file was replaced yet.
+    /// Makes a folder in memory in which no file was replaced yet.
     pub fn new(alloc: Global) -> StoredFolder
         ensures { result ≡ record { placed = []; begun = None; failed = false } }
     {
@@ -39,7 +39,7 @@ impl StoredFolder {
     }
 }
 
-/// Adds a call behind the others.
+/// Adds a call behind the others. At an Err, which only want of memory gives, they stay as they were.
 fn add_call(calls: &mut Sequence<Call>, call: Call) -> Result<(), ReplaceFault>
     ensures ok { OnOk result (calls.new ≡ calls.old ++ call ∷ []) }
     ensures err { OnErr result (calls.new ≡ calls.old) }
@@ -50,7 +50,8 @@ fn add_call(calls: &mut Sequence<Call>, call: Call) -> Result<(), ReplaceFault>
     }
 }
 
-/// Adds the call that wrote these bytes, and gives their number.
+/// Adds a call that wrote these bytes, and gives their number. At an Err, which only want of memory gives, the calls
+/// stay as they were.
 fn add_write(alloc: Global, calls: &mut Sequence<Call>, bytes: &[u8]) -> Result<usize, ReplaceFault>
     ensures count { IfOk result (λ n. n ≡ length bytes.now) }
     ensures ok { OnOk result (calls.new ≡ calls.old ++ Call.Wrote bytes.now ∷ []) }
@@ -61,7 +62,8 @@ fn add_write(alloc: Global, calls: &mut Sequence<Call>, bytes: &[u8]) -> Result<
     Ok(bytes.len())
 }
 
-/// Adds a path with the calls of its new file, a rename after them.
+/// Adds a path with the calls on its new file, and a rename behind these. At an Err, which only want of memory gives,
+/// the paths stay as they were.
 fn add_placed(
     placed: &mut Sequence<Placed>,
     path: Text,
@@ -85,14 +87,14 @@ impl Replacement for StoredNew {
 
     ghost failed = { λ n. n.failed };
 
-    /// Adds the write of all these bytes to the calls. It fails only where memory is wanting.
+    /// Adds a call that wrote all these bytes, and gives their number; `OutOfMemory` at want of memory.
     fn write(&mut self, bytes: &[u8]) -> Result<usize, ReplaceFault> {
         let written = add_write(self.alloc, &mut self.calls, bytes);
         self.failed = self.failed || written.is_err();
         written
     }
 
-    /// Adds a sync to the calls. It fails only where memory is wanting.
+    /// Adds a sync to the calls; `OutOfMemory` at want of memory.
     fn sync(&mut self) -> Result<(), ReplaceFault> {
         let synced = add_call(&mut self.calls, Call::Synced);
         self.failed = self.failed || synced.is_err();
@@ -111,7 +113,7 @@ impl Folder for StoredFolder {
 
     ghost failed = { λ f. f.failed };
 
-    /// Remembers the path for `rename`, and gives a new file of which no call was made.
+    /// Remembers the path for `rename`, and gives a new file with no calls; `OutOfMemory` at want of memory.
     fn begin_replacement(&mut self, alloc: Global, path: &str) -> Result<StoredNew, ReplaceFault> {
         let Ok(path) = Text::copy_of(alloc, path) else {
             self.failed = true;
@@ -125,8 +127,8 @@ impl Folder for StoredFolder {
         })
     }
 
-    /// Adds the path last begun with the new file's calls; `CannotReplace` where none was begun since the last
-    /// rename.
+    /// Adds the path last begun with the new file's calls. `CannotReplace` where none was begun since the last rename,
+    /// `OutOfMemory` at want of memory.
     fn rename(&mut self, new: StoredNew) -> Result<(), ReplaceFault> {
         let renamed = match self.begun.take() {
             Some(path) => add_placed(&mut self.placed, path, new.calls),
@@ -136,7 +138,7 @@ impl Folder for StoredFolder {
         renamed
     }
 
-    /// Drops the new file; nothing is placed.
+    /// Drops the new file; no path gets it.
     fn discard(&mut self, new: StoredNew) {
         self.failed = new.failed || self.failed;
     }

@@ -7,21 +7,21 @@ use crate::place::DocumentPlace;
 use bf_read::{GraphKey, TaskKey};
 use serde_json::Value;
 
-/// The value of task `n` of a document, counted from 0; None where it has none.
+/// Gives the value of task `n`, counted from 0; None where the document has none.
 pub(crate) fn task_at<'a>(document: &'a Value, n: usize) -> Option<&'a Value>
     ensures { option_map (λ v. view v.now) result ≡ task_value (view document.entry.now) n }
 {
     document.get(GraphKey::Tasks.name())?.get(n)
 }
 
-/// The value of item `i` of the list under a key of task `n`, both counted from 0; None where there is none.
+/// Gives the value of item `i` of the list under a key of task `n`, both counted from 0; None where there is none.
 fn item_at<'a>(document: &'a Value, n: usize, key: TaskKey, i: usize) -> Option<&'a Value>
     ensures { option_map (λ v. view v.now) result ≡ item_value (view document.entry.now) n key i }
 {
     task_at(document, n)?.get(key.name())?.get(i)
 }
 
-/// The value at a place of a document; None where there is none. An unknown key has one, as a known one.
+/// Gives the value at a place of the document; None where there is none. Unknown keys have values too.
 pub(crate) fn value_at<'a>(document: &'a Value, place: &DocumentPlace) -> Option<&'a Value>
     ensures { option_map (λ v. view v.now) result ≡ value_in (view document.entry.now) place.now }
 {

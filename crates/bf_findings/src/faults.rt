@@ -20,13 +20,14 @@ use bf_value::{OutOfMemory, Text};
 use serde_json::Value;
 use std::alloc::Global;
 
-/// How many faults are told: each may have a suggestion, which is sought among all names of the file.
+/// The most faults that are told of a file. Each may have a suggestion, which is sought among all names of the file, so
+/// that there has to be a bound.
 const MOST_FAULTS: usize = 100;
 
-/// How many bytes a text may have for which a name is sought: as many as an id.
+/// The most bytes of a text for which a name is suggested: those of the longest id.
 const LONGEST_NAME: usize = 250;
 
-/// The value at a place, as a finding shows it: `missing` for None.
+/// Gives the value at a place as a finding shows it; `missing` for None.
 fn told_value_at(
     alloc: Global,
     place: &DocumentPlace,
@@ -40,8 +41,8 @@ fn told_value_at(
     }
 }
 
-/// The text at a place for which a known name is sought: an unknown key, or else the value there. None where that is
-/// no text, or is longer than an id may be.
+/// Gives the text for which a known name may be suggested: the unknown key at that place, or else the value. None where
+/// the value is no text, or the text is longer than an id may be.
 fn sought_text_at<'a>(place: &'a DocumentPlace, value: Option<&'a Value>) -> Option<&'a str>
     ensures { option_map (λ s. s.now) result
         ≡ sought_text_in place.entry.now (option_map (λ v. view v.now) value.entry) }
@@ -57,8 +58,8 @@ fn sought_text_at<'a>(place: &'a DocumentPlace, value: Option<&'a Value>) -> Opt
     }
 }
 
-/// The known name for a text where `form` may stand: what Airflow's or cron's name means, or else the nearest name;
-/// None where no name is near.
+/// Suggests a known name for a text that stands where `form` may: the one that means what Airflow or cron calls so, or
+/// else the nearest. None where no name is near.
 fn suggestion(
     alloc: Global,
     document: &Value,
@@ -78,7 +79,8 @@ fn suggestion(
     }
 }
 
-/// The known name that is meant by a text where `form` may stand, or the nearest; None without a text or a near name.
+/// Suggests a known name for a text that stands where `form` may, as `suggestion` does; None for no text, or where no
+/// name is near.
 fn suggestion_for(
     alloc: Global,
     document: &Value,
@@ -95,7 +97,7 @@ fn suggestion_for(
 }
 
 impl Document<'_> {
-    /// What is wrong at a place, with what may be there and a suggested name; None where nothing is wrong.
+    /// Finds what is wrong at a place, with what may stand there and a suggested name; None where nothing is wrong.
     fn fault_at(self, alloc: Global, place: DocumentPlace) -> Result<Option<Fault>, OutOfMemory>
         ensures some { IfOk result (λ found. IfSome found
             (IsFault (option_map (λ s. s.now) self.entry.zone_file) (view self.entry.value.now))) }
@@ -121,7 +123,7 @@ impl Document<'_> {
         }))
     }
 
-    /// What is wrong at each place of the document, from the top down, up to the hundredth fault.
+    /// Finds what is wrong at each place of the document, from the top down, up to the hundredth fault.
     pub(crate) fn faults(self, alloc: Global) -> Result<Vec<Fault>, OutOfMemory>
         ensures { IfOk result (λ v. AreFaults (option_map (λ s. s.now) self.entry.zone_file)
             (view self.entry.value.now) v.items) }

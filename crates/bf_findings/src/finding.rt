@@ -5,19 +5,19 @@ use crate::refusal::Refusal;
 use bf_value::Text;
 use std::fmt;
 
-/// What is wrong at a place of the document.
+/// What is wrong at one place of a graph file's document.
 #[derive(Debug, Drop)]
 pub struct Fault {
     pub place: DocumentPlace,
     /// What may stand there.
     pub form: Form,
-    /// What stands there, as it is told.
+    /// What stands there, as a finding shows it.
     pub stands: Text,
-    /// The name that is meant, or the known one that is nearest.
+    /// A known name that may have been meant; None where none is near.
     pub suggestion: Option<Text>,
 }
 
-/// A suggested name, as it is asked for.
+/// A suggested name, which displays as a question: `did you mean "rule"?`.
 #[derive(Clone, Copy)]
 struct Meant<'a>(&'a Text);
 
@@ -27,18 +27,19 @@ impl fmt::Display for Meant<'_> {
 
     ghost output = { λ meant. Some (meant_text meant.0.now) };
 
+    /// Writes the question that suggests the name, such as `did you mean "rule"?`.
     fn fmt<W: fmt::Write>(&self, f: &mut fmt::Formatter<W>) -> fmt::Result {
         write!(f, "did you mean \"{}\"?", self.0)
     }
 }
 
-/// What is found wrong with a graph file.
+/// Something that is wrong with a graph file.
 #[derive(Debug, Drop)]
 pub enum Finding {
-    /// The bytes are no JSON in UTF-8: the line and the column to which `serde_json` read.
+    /// The bytes are no JSON in UTF-8; the line and the column where `serde_json` stopped reading.
     NotJson(usize, usize),
     Fault(Fault),
-    /// Nothing is wrong at any place by itself, and the file is refused for this.
+    /// Each place by itself is right, but the file as a whole is refused for this.
     Refused(Refusal),
 }
 
@@ -48,6 +49,7 @@ impl fmt::Display for Fault {
 
     ghost output = { λ fault. Some (fault_text fault) };
 
+    /// Writes the place, what stands there, and the suggested name or else what may stand there.
     fn fmt<W: fmt::Write>(&self, f: &mut fmt::Formatter<W>) -> fmt::Result {
         write!(f, "{}: {}: ", self.place, self.stands)?;
         match &self.suggestion {
@@ -63,6 +65,7 @@ impl fmt::Display for Finding {
 
     ghost output = { λ finding. Some (finding_text finding) };
 
+    /// Writes the finding on one line, without a line feed.
     fn fmt<W: fmt::Write>(&self, f: &mut fmt::Formatter<W>) -> fmt::Result {
         match self {
             Finding::NotJson(line, column) => {

@@ -13,7 +13,7 @@ use bf_read::{DEFAULT_POOL, GraphKey, LONGEST_WORD, MOST_TASKS, MOST_WORDS, Task
 use bf_rule::Rule;
 use serde_json::{Map, Value};
 
-/// The items of the list `tasks` of a document; none where it has no such list.
+/// Gives the items of the document's list `tasks`; none where it has no such list.
 #[tactic(auto, using(crate::proofs::Lists::list_viewed))]
 pub(crate) fn tasks_in<'a>(document: &'a Value) -> &'a [Value]
     ensures { map view result.now ≡ tasks_at (view document.entry.now) }
@@ -27,7 +27,7 @@ pub(crate) fn tasks_in<'a>(document: &'a Value) -> &'a [Value]
     }
 }
 
-/// Whether a task's object has this text as its id.
+/// Answers whether a task's object has this id.
 fn has_id(task: &Value, id: &str) -> bool
     ensures { result ≡ has_id_in id.now (view task.now) }
 {
@@ -40,21 +40,21 @@ fn has_id(task: &Value, id: &str) -> bool
     }
 }
 
-/// Whether one of these tasks' objects has this text as its id.
+/// Answers whether one of these tasks' objects has this id.
 fn any_has_id(tasks: &[Value], id: &str) -> bool
     ensures { result ≡ list_any (λ task. has_id_in id.now (view task)) tasks.now }
 {
     tasks.iter().any(|task| has_id(task, id))
 }
 
-/// Whether a task of the document has this id.
+/// Answers whether a task of the document has this id.
 fn is_task_id(document: &Value, id: &str) -> bool
     ensures { result ≡ is_task_id_in (view document.now) id.now }
 {
     any_has_id(tasks_in(document), id)
 }
 
-/// Whether one of the first `n` tasks, or of all where there are fewer, has the id.
+/// Answers whether one of the document's first `n` tasks, or of all where there are fewer, has this id.
 fn is_task_id_before(document: &Value, n: usize, id: &str) -> bool
     ensures { result ≡ is_task_id_before_in (view document.now) n id.now }
 {
@@ -62,7 +62,7 @@ fn is_task_id_before(document: &Value, n: usize, id: &str) -> bool
     any_has_id(&tasks[..n.min(tasks.len())], id)
 }
 
-/// The members of the object `pools` of a document; None where it has no such object.
+/// Gives the members of the document's object `pools`; None where it has no such object.
 pub(crate) fn pools_in<'a>(document: &'a Value) -> Option<&'a Map<String, Value>>
     ensures { option_map (λ m. members_view m.now.entries) result
         ≡ pools_at (view document.entry.now) }
@@ -70,7 +70,7 @@ pub(crate) fn pools_in<'a>(document: &'a Value) -> Option<&'a Map<String, Value>
     document.get(GraphKey::Pools.name())?.as_object()
 }
 
-/// Whether this is `default_pool`, or the name of a pool of the document.
+/// Answers whether a name is `default_pool`, or that of a pool of the document.
 fn is_pool_name(document: &Value, name: &str) -> bool
     ensures { result ≡ is_pool_name_in (view document.now) name.now }
 {
@@ -81,7 +81,7 @@ fn is_pool_name(document: &Value, name: &str) -> bool
             .is_some()
 }
 
-/// Whether a text may stand where `form` may. True of any text for a schedule and a zone, whose texts aren't read.
+/// Answers whether a text may stand where `form` may. For a schedule or a zone any text passes: those aren't read here.
 pub(crate) fn text_fits(document: &Value, form: Form, text: &str) -> bool
     ensures { result ≡ text_fits_in (view document.now) form text.now }
 {
@@ -100,14 +100,14 @@ pub(crate) fn text_fits(document: &Value, form: Form, text: &str) -> bool
     }
 }
 
-/// Whether a number is one from `least` to `most`, both included.
+/// Answers whether a number lies from `least` to `most`, both included.
 fn is_between(least: u32, most: u32, number: i64) -> bool
     ensures { result ≡ is_between_in least most number }
 {
     i64::from(least) <= number && number <= i64::from(most)
 }
 
-/// Whether a value is a whole number from `least` to `most`, both included.
+/// Answers whether a value is a whole number from `least` to `most`, both included.
 fn is_whole_number_between(value: &Value, least: u32, most: u32) -> bool
     ensures { result ≡ is_whole_number_between_in least most (view value.now) }
 {
@@ -117,7 +117,7 @@ fn is_whole_number_between(value: &Value, least: u32, most: u32) -> bool
     }
 }
 
-/// Whether a value is a list of at most `most` items.
+/// Answers whether a value is a list of at most `most` items.
 #[tactic(auto, using(crate::proofs::Lists::items_counted))]
 fn has_at_most_items(value: &Value, most: usize) -> bool
     ensures { result ≡ has_at_most_items_in most (view value.now) }
@@ -128,7 +128,7 @@ fn has_at_most_items(value: &Value, most: usize) -> bool
     }
 }
 
-/// Whether a value is an object with a key `context`, `pull` or `item`.
+/// Answers whether a value is an object with a key `context`, `pull` or `item`.
 fn has_word_key(value: &Value) -> bool
     ensures { result ≡ list_any (λ key. is_some (get (word_key_name key) (view value.now)))
         word_keys }
@@ -136,7 +136,7 @@ fn has_word_key(value: &Value) -> bool
     WORD_KEYS.iter().any(|key| value.get(key.name()).is_some())
 }
 
-/// Whether a value is an object with just one key, `context`, `pull` or `item`.
+/// Answers whether a value is an object whose single key is `context`, `pull` or `item`.
 #[tactic(auto, using(crate::proofs::Lists::members_counted))]
 fn is_word_object(value: &Value) -> bool
     ensures { result ≡ is_word_object_in (view value.now) }
@@ -147,8 +147,8 @@ fn is_word_object(value: &Value) -> bool
     }
 }
 
-/// Whether a value that is no text may stand where `form` may. What is in an object or a list isn't looked at, but
-/// for a word's key.
+/// Answers whether a value that is no text may stand where `form` may. It doesn't look into objects and lists, but for
+/// the key of a word.
 pub(crate) fn non_text_fits(form: Form, value: &Value) -> bool
     ensures { result ≡ non_text_fits_in form (view value.now) }
 {

@@ -13,25 +13,25 @@ use bf_read::{
 use serde_json::Value;
 use std::fmt;
 
-/// What may stand at a place.
+/// What may stand at a place of a graph file's document.
 #[derive(Clone, Copy, Debug, PartialEq, Eq)]
 pub enum Form {
     /// The object of the file, or of a task.
     Object,
-    /// Nothing, under a key that graph files don't have.
+    /// Nothing: graph files don't have this key.
     NoGraphKey,
-    /// Nothing, under a key that tasks don't have.
+    /// Nothing: tasks don't have this key.
     NoTaskKey,
-    /// Nothing, under a name of a pool that is no id.
+    /// Nothing: the name of this pool is no id.
     NoPool,
-    /// Nothing, since only a task that is expanded has an item.
+    /// Nothing: only an expanded task has an item.
     NoItem,
     Id,
-    /// An id that none of so many first tasks has.
+    /// An id that none of the first so many tasks has.
     NewId(usize),
     Schedule,
     Zone,
-    /// A whole number from one to another.
+    /// A whole number from the first to the second, both included.
     Whole(u32, u32),
     Pools,
     Tasks,
@@ -43,14 +43,14 @@ pub enum Form {
     WeightRule,
     /// The id of a task of the file.
     TaskId,
-    /// The name of a pool that is there.
+    /// The name of a pool of the file, or `default_pool`.
     PoolName,
     Word,
     Context,
     Item,
 }
 
-/// What may stand under a key of a graph file.
+/// Gives what may stand under a key of a graph file's outer object.
 fn graph_form(key: GraphKey) -> Form
     ensures { result ≡ graph_form_of key }
 {
@@ -64,7 +64,7 @@ fn graph_form(key: GraphKey) -> Form
     }
 }
 
-/// What may stand under a key of task `n`, counted from 0.
+/// Gives what may stand under a key of task `n`, counted from 0.
 fn task_form(n: usize, key: TaskKey) -> Form
     ensures { result ≡ task_form_of n key }
 {
@@ -85,7 +85,7 @@ fn task_form(n: usize, key: TaskKey) -> Form
     }
 }
 
-/// Whether task `n` of the document, counted from 0, has the key `expand`.
+/// Answers whether task `n` of the document, counted from 0, has the key `expand`.
 fn is_expanded(document: &Value, n: usize) -> bool
     ensures { result ≡ is_expanded_in (view document.now) n }
 {
@@ -94,7 +94,7 @@ fn is_expanded(document: &Value, n: usize) -> bool
         .is_some()
 }
 
-/// What may stand at a place of the document, whatever stands there.
+/// Gives what may stand at a place of the document, whatever stands there now.
 pub(crate) fn form_of(document: &Value, place: &DocumentPlace) -> Form
     ensures { result ≡ form_in (view document.now) place.now }
 {
@@ -121,6 +121,7 @@ impl fmt::Display for Form {
 
     ghost output = { λ form. Some (form_text form) };
 
+    /// Writes what may stand there, such as `has to be a whole number from 1 to 4096`.
     fn fmt<W: fmt::Write>(&self, f: &mut fmt::Formatter<W>) -> fmt::Result {
         if let Form::Whole(least, most) = self {
             return write!(f, "has to be a whole number from {least} to {most}");
@@ -132,7 +133,7 @@ impl fmt::Display for Form {
 impl Form {
     ghost use Rattle.bf_findings.specs.Forms.{form_words};
 
-    /// The words that say what the form is, as `has to be true`, but for the bounds of a number.
+    /// Gives the words for what may stand there, such as `has to be true`; for a number they leave out its bounds.
     fn words_without_bounds(self) -> &'static str
         ensures { result.now ≡ form_words self }
     {

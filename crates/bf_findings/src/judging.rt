@@ -13,14 +13,14 @@ use bf_zone::{Zone, ZoneFault};
 use serde_json::Value;
 use std::alloc::Global;
 
-/// The document of a graph file, with the bytes of a zone file for the zone `file`.
+/// A graph file's document, with the bytes of a zone file for the zone `file`.
 #[derive(Clone, Copy)]
 pub(crate) struct Document<'a> {
     pub(crate) value: &'a Value,
     pub(crate) zone_file: Option<&'a [u8]>,
 }
 
-/// Whether a text says a schedule that some civil minute matches.
+/// Answers whether a text is a schedule that some civil minute matches.
 fn is_schedule(alloc: Global, text: &str) -> Result<bool, OutOfMemory>
     ensures yes { IfOk result (λ b. b ≡ true → IsSchedule text.now) }
     ensures no { IfOk result (λ b. b ≡ false → ¬ (IsSchedule text.now)) }
@@ -32,7 +32,7 @@ fn is_schedule(alloc: Global, text: &str) -> Result<bool, OutOfMemory>
     }
 }
 
-/// Whether a text means a zone; `file` has the bytes for the text `file`.
+/// Answers whether a text means a zone; `file` has the bytes for the text `file`.
 fn is_zone(alloc: Global, text: &str, file: Option<&[u8]>) -> Result<bool, OutOfMemory>
     ensures yes { IfOk result (λ b. b ≡ true
         → IsZoneText text.now (option_map (λ s. s.now) file.entry)) }
@@ -50,7 +50,7 @@ fn is_zone(alloc: Global, text: &str, file: Option<&[u8]>) -> Result<bool, OutOf
 }
 
 impl Document<'_> {
-    /// Whether a text may stand where `form` may, a schedule's and a zone's text read too.
+    /// Answers whether a text may stand where `form` may; reads the texts of schedules and zones too.
     fn text_may_stand(self, alloc: Global, form: Form, text: &str) -> Result<bool, OutOfMemory>
         ensures yes { IfOk result (λ b. b ≡ true
             → TextMayStand (option_map (λ s. s.now) self.entry.zone_file)
@@ -66,7 +66,7 @@ impl Document<'_> {
         }
     }
 
-    /// Whether a value, a text or not, may stand where `form` may.
+    /// Answers whether a value, text or not, may stand where `form` may.
     fn may_stand(self, alloc: Global, form: Form, value: &Value) -> Result<bool, OutOfMemory>
         ensures yes { IfOk result (λ b. b ≡ true
             → MayStand (option_map (λ s. s.now) self.entry.zone_file) (view self.entry.value.now)
@@ -81,7 +81,8 @@ impl Document<'_> {
         }
     }
 
-    /// Whether the value at a place may not stand where `form` may, or, for None, the place has to have a value.
+    /// Answers whether the value at a place may not stand where `form` may; for None, whether a value is required
+    /// there.
     pub(crate) fn is_wrong(
         self,
         alloc: Global,
@@ -105,7 +106,7 @@ impl Document<'_> {
     }
 }
 
-/// Whether a graph file has to have a value at a place: `dag_id`, `schedule`, `tasks`, and the `id` of a task.
+/// Answers whether a graph file must have a value at a place: `dag_id`, `schedule`, `tasks`, and each task's `id`.
 fn is_required(place: &DocumentPlace) -> bool
     ensures { result ≡ is_required_in place.now }
 {

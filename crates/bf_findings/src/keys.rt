@@ -5,6 +5,7 @@ ghost use Rattle.bf_read.specs.Keys.{is_graph_key_in, is_task_key_in};
 use crate::place::WordKey;
 use bf_read::{GraphKey, TaskKey};
 
+/// All keys of a graph file's outer object.
 pub(crate) const GRAPH_KEYS: [GraphKey; 6] = [
     GraphKey::DagId,
     GraphKey::Schedule,
@@ -14,6 +15,7 @@ pub(crate) const GRAPH_KEYS: [GraphKey; 6] = [
     GraphKey::Tasks,
 ];
 
+/// All keys of a task's object.
 pub(crate) const TASK_KEYS: [TaskKey; 13] = [
     TaskKey::Id,
     TaskKey::Upstream,
@@ -30,16 +32,17 @@ pub(crate) const TASK_KEYS: [TaskKey; 13] = [
     TaskKey::WeightRule,
 ];
 
+/// All keys of a word that is an object.
 pub(crate) const WORD_KEYS: [WordKey; 3] = [WordKey::Context, WordKey::Pull, WordKey::Item];
 
-/// Whether a graph file's object may have this key.
+/// Answers whether a graph file's outer object may have this key.
 pub(crate) fn is_graph_key(name: &str) -> bool
     ensures { result ≡ is_graph_key_in name.now }
 {
     GRAPH_KEYS.iter().any(|key| name == key.name())
 }
 
-/// Whether a task's object may have this key.
+/// Answers whether a task's object may have this key.
 pub(crate) fn is_task_key(name: &str) -> bool
     ensures { result ≡ is_task_key_in name.now }
 {

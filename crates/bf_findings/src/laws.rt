@@ -5,8 +5,7 @@ ghost use Rattle.bf_findings.specs.EachPlace.{IsPlace};
 ghost use Rattle.bf_findings.specs.Listed.{places_in};
 ghost use Rattle.bf_findings.specs.declared.place.DocumentPlace.{DocumentPlace};
 
-/// A law: each place of a document at which something stands is among those that are looked at, and so is each
-/// key that has a meaning there.
+/// A law: the check looks at each place of a document where something stands, and at each known key.
 pub fn each_place_is_listed()
     ensures { (d : Data) (place : DocumentPlace) → IsPlace d place → Contains (places_in d) place }
 {}

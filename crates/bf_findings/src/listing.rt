@@ -15,8 +15,7 @@ use bf_value::OutOfMemory;
 use serde_json::Value;
 use std::alloc::Global;
 
-/// Why a graph file, as its bytes, is refused; None where it is accepted. `zone_file` has the bytes for the zone
-/// `file`.
+/// Gives why a graph file is refused; None where it is accepted. `zone_file` has the bytes for the zone `file`.
 fn refusal(
     alloc: Global,
     graph: &[u8],
@@ -36,15 +35,15 @@ fn refusal(
     }
 }
 
-/// The faults as findings, in order.
+/// Turns the faults into findings, in order.
 fn as_findings(alloc: Global, faults: Vec<Fault>) -> Result<Vec<Finding>, OutOfMemory>
     ensures { IfOk result (λ v. v.items ≡ map FaultFound faults.items) }
 {
     Ok(faults.into_iter().map(Finding::Fault).collect(alloc)?)
 }
 
-/// What is wrong at the places of a document, up to the hundredth fault. `zone_file` has the bytes for the zone
-/// `file`.
+/// Finds what is wrong at the places of a document, from the top down, up to the hundredth fault. `zone_file` has the
+/// bytes for the zone `file`.
 fn document_findings(
     alloc: Global,
     value: &Value,
@@ -62,8 +61,8 @@ fn document_findings(
     Ok(found)
 }
 
-/// What is wrong in the bytes of a graph file: that they are no JSON, or else the faults of its document. Empty for a
-/// file that is too long, which its refusal tells.
+/// Finds what is wrong in the bytes of a graph file: that they are no JSON, or else the faults of its document. Empty
+/// where they are too many, which the file's refusal tells.
 #[tactic(auto, using(crate::proofs::Files::data_there, crate::proofs::Files::no_data_there))]
 fn findings_in_bytes(
     alloc: Global,
@@ -90,7 +89,7 @@ fn findings_in_bytes(
     }
 }
 
-/// What is found in a graph file that is refused: what is wrong at its places, or, where that is nothing, `refusal`.
+/// Finds what is wrong in a graph file that is refused: the faults at its places, or `refusal` where there are none.
 #[tactic(auto, using(crate::proofs::PlaceLemmas::still_told))]
 fn findings_of_refused(
     alloc: Global,
@@ -113,8 +112,9 @@ fn findings_of_refused(
     Ok(found)
 }
 
-/// What is wrong with a graph file, all that can be told at once, from the top down, up to the hundredth fault:
-/// nothing exactly where it is accepted. A zone file's bytes are looked at only where the graph's zone is `file`.
+/// Finds all that can be told at once of what is wrong with a graph file, from the top down, up to the hundredth
+/// finding. Empty exactly where the file is accepted. `zone_file` has the bytes for the zone `file`; no other zone
+/// needs them.
 pub fn findings(
     alloc: Global,
     graph: &[u8],

@@ -11,7 +11,7 @@ use bf_value::OutOfMemory;
 use serde_json::{Map, Value};
 use std::alloc::Global;
 
-/// The key of a graph file that Airflow has under this name, in lower case; None for any other name.
+/// Gives the graph file's key for what Airflow calls `name`, which is in lower case; None for any other name.
 #[tactic(auto, unfolding(crate::specs::Names::graph_key_meant_of))]
 fn graph_key_meant(name: &str) -> Option<&'static str>
     ensures { option_map (λ s. s.now) result ≡ graph_key_meant_of name.now }
@@ -23,7 +23,7 @@ fn graph_key_meant(name: &str) -> Option<&'static str>
     }
 }
 
-/// The key of a task that Airflow's operators have under this name, in lower case; None for any other name.
+/// Gives the task's key for what Airflow's operators call `name`, which is in lower case; None for any other name.
 #[tactic(auto, unfolding(crate::specs::Names::task_key_meant_of))]
 fn task_key_meant(name: &str) -> Option<&'static str>
     ensures { option_map (λ s. s.now) result ≡ task_key_meant_of name.now }
@@ -37,7 +37,7 @@ fn task_key_meant(name: &str) -> Option<&'static str>
     }
 }
 
-/// The trigger rule of an older name in Airflow; None for any other name.
+/// Gives the trigger rule for the older name that Airflow has for it; None for any other name.
 #[tactic(auto, unfolding(crate::specs::Names::rule_meant_of))]
 fn rule_meant(name: &str) -> Option<&'static str>
     ensures { option_map (λ s. s.now) result ≡ rule_meant_of name.now }
@@ -49,7 +49,7 @@ fn rule_meant(name: &str) -> Option<&'static str>
     }
 }
 
-/// The preset here for what cron calls `@midnight` or `@annually`; None for any other name.
+/// Gives the preset for what cron calls `@midnight` or `@annually`; None for any other name.
 #[tactic(auto, unfolding(crate::specs::Names::schedule_meant_of))]
 fn schedule_meant(name: &str) -> Option<&'static str>
     ensures { option_map (λ s. s.now) result ≡ schedule_meant_of name.now }
@@ -61,7 +61,7 @@ fn schedule_meant(name: &str) -> Option<&'static str>
     }
 }
 
-/// The context variable of an older or shorter name in Airflow; None for any other name.
+/// Gives the context variable for the older or shorter name that Airflow has for it; None for any other name.
 #[tactic(auto, unfolding(crate::specs::Names::context_meant_of))]
 fn context_meant(name: &str) -> Option<&'static str>
     ensures { option_map (λ s. s.now) result ≡ context_meant_of name.now }
@@ -73,7 +73,8 @@ fn context_meant(name: &str) -> Option<&'static str>
     }
 }
 
-/// The name here of what Airflow or cron calls `name`, in lower case, where `form` may stand; None for other names.
+/// Gives the name used here for what Airflow or cron calls `name`, which is in lower case and stands where `form` may;
+/// None for any other name.
 pub(crate) fn meant_name(form: Form, name: &str) -> Option<&'static str>
     ensures { option_map (λ s. s.now) result ≡ meant_name_of form name.now }
 {
@@ -87,6 +88,7 @@ pub(crate) fn meant_name(form: Form, name: &str) -> Option<&'static str>
     }
 }
 
+/// The names of all keys of a graph file's outer object.
 const GRAPH_KEYS: [&str; 6] = [
     "dag_id",
     "schedule",
@@ -96,6 +98,7 @@ const GRAPH_KEYS: [&str; 6] = [
     "tasks",
 ];
 
+/// The names of all keys of a task's object.
 const TASK_KEYS: [&str; 13] = [
     "id",
     "upstream",
@@ -112,6 +115,7 @@ const TASK_KEYS: [&str; 13] = [
     "weight_rule",
 ];
 
+/// The presets that a schedule may be.
 const PRESETS: [&str; 6] = [
     "@hourly",
     "@daily",
@@ -121,6 +125,7 @@ const PRESETS: [&str; 6] = [
     "@yearly",
 ];
 
+/// The names of all trigger rules.
 const RULES: [&str; 11] = [
     "all_success",
     "all_failed",
@@ -135,6 +140,7 @@ const RULES: [&str; 11] = [
     "always",
 ];
 
+/// The names of all context variables.
 const CONTEXTS: [&str; 7] = [
     "logical_date",
     "data_interval_start",
@@ -145,7 +151,7 @@ const CONTEXTS: [&str; 7] = [
     "try_number",
 ];
 
-/// The names that the format itself has for a form; none for forms without such names.
+/// Gives the names that the format itself has for a form; none where it has no names for it.
 fn fixed_names(form: Form) -> &'static [&'static str]
     ensures { map (λ s. s.now) result.now ≡ fixed_names_of form }
 {
@@ -162,7 +168,7 @@ fn fixed_names(form: Form) -> &'static [&'static str]
     }
 }
 
-/// The id of a task's object; None where it is missing, or no id.
+/// Gives a task object's id; None where it is missing, or not an id.
 fn known_id<'a>(task: &'a Value) -> Option<&'a str>
     ensures { option_map (λ s. s.now) result ≡ id_known (view task.entry.now) }
 {
@@ -170,7 +176,7 @@ fn known_id<'a>(task: &'a Value) -> Option<&'a str>
     if is_id(id) { Some(id) } else { None }
 }
 
-/// The ids of the tasks of a document, in order, those left out that are no ids.
+/// Gives the ids of the document's tasks, in order, without texts that are no ids.
 fn ids_in<'a>(alloc: Global, document: &'a Value) -> Result<Vec<&'a str>, OutOfMemory>
     ensures { IfOk result (λ v. map (λ s. s.now) v.items ≡ ids_of (view document.entry.now)) }
 {
@@ -183,7 +189,7 @@ fn ids_in<'a>(alloc: Global, document: &'a Value) -> Result<Vec<&'a str>, OutOfM
     Ok(found)
 }
 
-/// The names of pools that tasks may name: those of the form of an id.
+/// Gives the names of these pools, without those that are no ids, which no task may name.
 fn pool_names_that_are_ids<'a>(
     alloc: Global,
     pools: &'a Map<String, Value>,
@@ -200,7 +206,7 @@ fn pool_names_that_are_ids<'a>(
     Ok(names)
 }
 
-/// The names of the pools that tasks may name: those of the document, and `default_pool`.
+/// Gives the names of the pools that a task may name: those of the document, and `default_pool`.
 fn pool_names<'a>(alloc: Global, document: &'a Value) -> Result<Vec<&'a str>, OutOfMemory>
     ensures { IfOk result (λ v. map (λ s. s.now) v.items
         ≡ pool_names_of (view document.entry.now)) }
@@ -213,7 +219,7 @@ fn pool_names<'a>(alloc: Global, document: &'a Value) -> Result<Vec<&'a str>, Ou
     Ok(names)
 }
 
-/// The known names for a form: the document's for tasks and pools, and else the format's own, which may be none.
+/// Gives the known names for a form: the document's own for tasks and pools, else those of the format, if any.
 pub(crate) fn names_for<'a>(
     alloc: Global,
     document: &'a Value,

@@ -7,7 +7,7 @@ use bf_value::OutOfMemory;
 use std::alloc::Global;
 use strsim::levenshtein;
 
-/// How many edits (Levenshtein) lead from a text in lower case to a name, whose case doesn't count.
+/// Gives the Levenshtein distance from a text, in lower case, to a name, whose case doesn't count.
 fn edit_distance(alloc: Global, text: &str, name: &str) -> Result<usize, OutOfMemory>
     ensures { IfOk result (λ n. n ≡ distance_to text.now name.now) }
 {
@@ -15,14 +15,14 @@ fn edit_distance(alloc: Global, text: &str, name: &str) -> Result<usize, OutOfMe
     Ok(levenshtein(alloc, text, name.as_str())?)
 }
 
-/// A name and how far it is.
+/// A name, and how many edits it is away.
 #[derive(Clone, Copy)]
 struct Found<'a> {
     name: &'a str,
     distance: usize,
 }
 
-/// The nearer of the best name so far and another, and the best so far where both are as near.
+/// Gives the nearer of the best name so far and another; the best so far where both are as near.
 #[tactic(auto, using(crate::proofs::Nearness::still_nearest, crate::proofs::Nearness::now_nearest, crate::proofs::Nearness::first_nearest))]
 fn nearer<'a>(best: Option<Found<'a>>, other: Found<'a>) -> Found<'a>
     ensures { (text : List ℕ) (names : List (List ℕ)) → IsBest text names best.entry
@@ -35,7 +35,7 @@ fn nearer<'a>(best: Option<Found<'a>>, other: Found<'a>) -> Found<'a>
     }
 }
 
-/// The first of the names that are nearest to a text in lower case; None where there are no names.
+/// Finds the name nearest to a text in lower case, the first of several; None where there are no names.
 fn nearest<'a>(
     alloc: Global,
     text: &str,
@@ -51,14 +51,14 @@ fn nearest<'a>(
     Ok(best)
 }
 
-/// Whether the edits, `distance` of them, are fewer than half of the bytes of the longer text, rounded up.
+/// Answers whether `distance` is less than half the bytes, rounded up, of the longer of `text` and `name`.
 fn is_near(text: &str, name: &str, distance: usize) -> bool
     ensures { result ≡ is_near_in text.now name.now distance }
 {
     distance < text.len().max(name.len()).div_ceil(2)
 }
 
-/// The first of the names that are nearest to a text, case aside; None where even that isn't near (`is_near`).
+/// Finds the name nearest to a text, case aside, the first of several; None where even that isn't near (`is_near`).
 pub(crate) fn suggested_name<'a>(
     alloc: Global,
     text: &str,

@@ -3,7 +3,7 @@ use bf_read::{GraphKey, TaskKey};
 use bf_value::Text;
 use std::fmt;
 
-/// A key of a word that is an object.
+/// A key that an object which is a word of a command may have.
 #[derive(Clone, Copy, Debug, PartialEq, Eq)]
 pub enum WordKey {
     Context,
@@ -15,7 +15,7 @@ impl WordKey {
     ghost use Rattle.std.specs.Prelude.{◌≡◌};
     ghost use Rattle.bf_findings.specs.Places.{word_key_name};
 
-    /// The key as it stands in a file.
+    /// Gives the key as it stands in a file.
     pub fn name(self) -> &'static str
         ensures { result.now ≡ word_key_name self }
     {
@@ -33,27 +33,28 @@ pub enum DocumentPlace {
     /// The whole document.
     Top,
     Key(GraphKey),
-    /// What stands under a key that graph files don't have.
+    /// The value under a key that graph files don't have.
     OtherKey(Text),
-    /// The slots of the pool of this name.
+    /// The slots of the pool with this name.
     Pool(Text),
     Task(usize),
     TaskKey(usize, TaskKey),
-    /// What stands in a task under a key that tasks don't have.
+    /// The value in a task under a key that tasks don't have.
     OtherTaskKey(usize, Text),
     Upstream(usize, usize),
     Word(usize, usize),
     WordKey(usize, usize, WordKey),
 }
 
-/// The keys that lead to the place. What stands under a key of no meaning, and the slots of a pool, are told of the object that
-/// they stand in.
+/// The keys that lead to the place; for an unknown key or a pool's slots, those that lead to the object around them.
 impl fmt::Display for DocumentPlace {
     ghost use Rattle.std.specs.Prelude.{Some};
     ghost use Rattle.bf_findings.specs.Places.{place_text};
 
     ghost output = { λ place. Some (place_text place) };
 
+    /// Writes the keys that lead to the place, such as `tasks[3].upstream[0]`. For an unknown key or a pool's slots,
+    /// writes the place of the object that they stand in.
     fn fmt<W: fmt::Write>(&self, f: &mut fmt::Formatter<W>) -> fmt::Result {
         match self {
             DocumentPlace::Top | DocumentPlace::OtherKey(_) => write!(f, "top"),

@@ -12,7 +12,7 @@ use bf_value::{OutOfMemory, Text};
 use serde_json::{Map, Value};
 use std::alloc::Global;
 
-/// Adds the place of each known key of a graph file, whether the file has it or not.
+/// Adds the place of each key that a graph file may have, whether or not this one has it.
 fn add_graph_keys(places: &mut Vec<DocumentPlace>) -> Result<(), OutOfMemory>
     ensures { OnOk result (places.new.items ≡ places.old.items ++ graph_key_places) }
 {
@@ -22,7 +22,7 @@ fn add_graph_keys(places: &mut Vec<DocumentPlace>) -> Result<(), OutOfMemory>
     Ok(())
 }
 
-/// Adds the place of each key of the document `graph` that graph files don't have.
+/// Adds the place of each key of the outer object `graph` that graph files don't have.
 fn add_other_keys(
     alloc: Global,
     places: &mut Vec<DocumentPlace>,
@@ -39,7 +39,7 @@ fn add_other_keys(
     Ok(())
 }
 
-/// Adds the place of each pool.
+/// Adds the place of each of these pools.
 fn add_pool_names(
     alloc: Global,
     places: &mut Vec<DocumentPlace>,
@@ -54,7 +54,7 @@ fn add_pool_names(
     Ok(())
 }
 
-/// Adds the place of each pool that a document names; nothing where it has no object of pools.
+/// Adds the place of each pool that the document names; adds nothing where it has no object `pools`.
 fn add_pools(
     alloc: Global,
     places: &mut Vec<DocumentPlace>,
@@ -69,7 +69,7 @@ fn add_pools(
     }
 }
 
-/// Adds the place of each known key of task `n`, whether the task has it or not.
+/// Adds the place of each key that a task may have, for task `n`, whether or not this one has it.
 fn add_task_keys(places: &mut Vec<DocumentPlace>, n: usize) -> Result<(), OutOfMemory>
     ensures { OnOk result (places.new.items ≡ places.old.items ++ task_key_places n) }
 {
@@ -98,7 +98,7 @@ fn add_other_task_keys(
     Ok(())
 }
 
-/// The items of the list under a key of a task; none where the key has no list.
+/// Gives the items of the list under a key of a task; none where there is no list.
 #[tactic(auto, using(crate::proofs::Lists::list_viewed))]
 fn items_under<'a>(task: &'a Value, key: TaskKey) -> &'a [Value]
     ensures { map view result.now ≡ items_in (view task.entry.now) key }
@@ -109,7 +109,7 @@ fn items_under<'a>(task: &'a Value, key: TaskKey) -> &'a [Value]
     }
 }
 
-/// Adds the place of each upstream of task `n`, whose list of them is `items`.
+/// Adds the place of each of the upstreams `items` of task `n`.
 fn add_upstreams(
     places: &mut Vec<DocumentPlace>,
     n: usize,
@@ -142,7 +142,7 @@ fn add_word_keys(
     Ok(())
 }
 
-/// Adds the place of each word of task `n`, whose command is `items`, each followed by those of its keys.
+/// Adds the place of each of the words `items` of task `n`, each followed by those of its keys.
 fn add_words(places: &mut Vec<DocumentPlace>, n: usize, items: &[Value]) -> Result<(), OutOfMemory>
     ensures { OnOk result (places.new.items ≡ places.old.items ++ words n 0 (map view items.now)) }
 {
@@ -153,7 +153,7 @@ fn add_words(places: &mut Vec<DocumentPlace>, n: usize, items: &[Value]) -> Resu
     Ok(())
 }
 
-/// Adds the place of task `n`, and, where its value is an object, those of its keys, upstreams and words.
+/// Adds the place of task `n` and, where its value is an object, those of its keys, upstreams and words.
 fn add_task(
     alloc: Global,
     places: &mut Vec<DocumentPlace>,
@@ -172,7 +172,7 @@ fn add_task(
     add_words(places, n, items_under(task, TaskKey::Command))
 }
 
-/// Adds the places of each task and of what is in it.
+/// Adds the places of each task and of all that it holds.
 fn add_tasks(
     alloc: Global,
     places: &mut Vec<DocumentPlace>,
@@ -186,7 +186,7 @@ fn add_tasks(
     Ok(())
 }
 
-/// The places of a document that are checked, from the top down; only the top where it is no object.
+/// Gives the places of a document to look at, from the top down; only the top where it is no object.
 pub(crate) fn places_of(alloc: Global, document: &Value) -> Result<Vec<DocumentPlace>, OutOfMemory>
     ensures { IfOk result (λ v. v.items ≡ places_in (view document.now)) }
 {

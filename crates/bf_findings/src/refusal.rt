@@ -6,14 +6,14 @@ use bf_check::{CheckFault, TaskFault};
 use bf_read::{Path, ReadFault};
 use std::fmt;
 
-/// Why a graph file is refused: by its text, or as a graph.
+/// Why a graph file is refused: when it is read as a draft, or when the draft is checked as a plan.
 #[derive(Debug, Drop)]
 pub enum Refusal {
     Read(ReadFault),
     Check(CheckFault),
 }
 
-/// What a finding says, behind the fault itself, of a file that is refused when it is read.
+/// Gives the words that explain, behind the fault itself, why a file can't be read as a draft.
 fn words_of_read_fault(fault: &ReadFault) -> &'static str
     ensures { result.now ≡ why_read fault.now }
 {
@@ -26,7 +26,7 @@ fn words_of_read_fault(fault: &ReadFault) -> &'static str
     }
 }
 
-/// What a finding says, behind the fault itself, of a task that is refused.
+/// Gives the words that explain, behind the fault itself, what is wrong with a task.
 fn words_of_task_fault(fault: TaskFault) -> &'static str
     ensures { result.now ≡ why_task fault }
 {
@@ -44,7 +44,7 @@ fn words_of_task_fault(fault: TaskFault) -> &'static str
     }
 }
 
-/// What a finding says, behind the fault itself, of a graph that is refused when it is checked.
+/// Gives the words that explain, behind the fault itself, why a draft is refused.
 fn words_of_check_fault(fault: &CheckFault) -> &'static str
     ensures { result.now ≡ why_check fault.now }
 {
@@ -64,6 +64,7 @@ impl fmt::Display for Refusal {
 
     ghost output = { λ refusal. Some (refusal_text refusal) };
 
+    /// Writes the fault, and behind it the words that explain it.
     fn fmt<W: fmt::Write>(&self, f: &mut fmt::Formatter<W>) -> fmt::Result {
         match self {
             Refusal::Read(fault) => write!(f, "{fault}: {}", words_of_read_fault(fault)),

@@ -10,10 +10,10 @@ use bf_value::{OutOfMemory, Text};
 use serde_json::Value;
 use std::alloc::Global;
 
-/// How many bytes of a value are told; of a longer one only what it is.
+/// The most bytes of a text that a finding shows; of a longer one it says only what it is.
 const MOST_SHOWN: usize = 260;
 
-/// The JSON text of a text, with its quotes.
+/// Gives a text as JSON, with its quotes.
 pub(crate) fn json_text_of(alloc: Global, text: &str) -> Result<Text, OutOfMemory>
     ensures { IfOk result (λ t. t ≡ compact_text (string text.now)) }
 {
@@ -21,7 +21,7 @@ pub(crate) fn json_text_of(alloc: Global, text: &str) -> Result<Text, OutOfMemor
     Ok(Text::new(value.to_string(alloc)?))
 }
 
-/// The text, or `a long text` where it has more than `MOST_SHOWN` bytes.
+/// Gives the text itself, or `a long text` where it has more than `MOST_SHOWN` bytes.
 fn shortened_text(alloc: Global, text: String) -> Result<Text, OutOfMemory>
     ensures { IfOk result (λ t. t ≡ shortened_text_of (string_bytes text)) }
 {
@@ -31,8 +31,8 @@ fn shortened_text(alloc: Global, text: String) -> Result<Text, OutOfMemory>
     Ok(Text::new(text))
 }
 
-/// A value as a finding shows it: its JSON, or only its kind, as `a list`, where that might be long or is no whole
-/// number.
+/// Gives a value as a finding shows it: its JSON or, for a list, an object, a number that isn't whole and a long text,
+/// only what it is, such as `a list`.
 #[tactic(auto, using(crate::proofs::Plain::no_float))]
 fn shown_value(alloc: Global, value: &Value) -> Result<Text, OutOfMemory>
     ensures { IfOk result (λ t. t ≡ shown_value_of (view value.now)) }
@@ -49,7 +49,7 @@ fn shown_value(alloc: Global, value: &Value) -> Result<Text, OutOfMemory>
     shortened_text(alloc, value.to_string(alloc)?)
 }
 
-/// A key that has no meaning, as a finding shows it: `unknown key "size"`.
+/// Gives an unknown key as a finding shows it, in the form `unknown key "size"`.
 fn shown_unknown_key(alloc: Global, key: &str) -> Result<Text, OutOfMemory>
     ensures { IfOk result (λ t. t ≡ codes "unknown key " ++ compact_text (string key.now)) }
 {
@@ -57,7 +57,7 @@ fn shown_unknown_key(alloc: Global, key: &str) -> Result<Text, OutOfMemory>
     Ok(Text::new(format!(in alloc; "unknown key {key}")?))
 }
 
-/// A pool's name and the value of its slots, as a finding shows them: `"gpu": 0`.
+/// Gives a pool's name and the value of its slots as a finding shows them, in the form `"gpu": 0`.
 fn shown_pool(alloc: Global, name: &str, value: &Value) -> Result<Text, OutOfMemory>
     ensures { IfOk result (λ t. t ≡ compact_text (string name.now) ++ codes ": "
         ++ shown_value_of (view value.now)) }
@@ -66,7 +66,7 @@ fn shown_pool(alloc: Global, name: &str, value: &Value) -> Result<Text, OutOfMem
     Ok(Text::new(format!(in alloc; "{name}: {slots}")?))
 }
 
-/// The value at a place, as a finding shows it; of an unknown key only the key.
+/// Gives the value at a place as a finding shows it; for an unknown key only the key.
 pub(crate) fn shown_at(
     alloc: Global,
     place: &DocumentPlace,

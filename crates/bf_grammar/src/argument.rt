@@ -7,7 +7,8 @@ use bf_workers::MOST_WORKERS;
 use clap::{Arg, ArgAction, value_parser};
 use std::alloc::Global;
 
-/// A required argument without an option's name. `id` is its key in what `clap` finds, `value` its name in help.
+/// Makes a required argument without an option's name. `id` is its key in what `clap` finds; `value` and `help` are its
+/// name and text in help.
 pub(crate) fn positional<'a>(alloc: Global, id: &'a str, value: &'a str, help: &'a str) -> Arg<'a>
     ensures { rule_of result ≡ positional_rule id.entry.now }
 {
@@ -17,7 +18,8 @@ pub(crate) fn positional<'a>(alloc: Global, id: &'a str, value: &'a str, help: &
         .required(true)
 }
 
-/// An optional argument without an option's name. `id` is its key in what `clap` finds, `value` its name in help.
+/// Makes an argument without an option's name, which a line may leave out. `id` is its key in what `clap` finds;
+/// `value` and `help` are its name and text in help.
 pub(crate) fn optional_positional<'a>(
     alloc: Global,
     id: &'a str,
@@ -29,7 +31,8 @@ pub(crate) fn optional_positional<'a>(
     Arg::new(alloc, id).value_name(value).help(help)
 }
 
-/// The option `--long` with a value. `id` is its key in what `clap` finds, `value` the value's name in help.
+/// Makes the option `--long` with a value. `id` is its key in what `clap` finds; `value` and `help` are the value's
+/// name and the text in help.
 pub(crate) fn option_with_value<'a>(
     alloc: Global,
     id: &'a str,
@@ -42,7 +45,8 @@ pub(crate) fn option_with_value<'a>(
     Arg::new(alloc, id).long(long).value_name(value).help(help)
 }
 
-/// The required option `--id` with a value, whose name in help is `value`.
+/// Makes the option `--id` with a value, which a line must have. `value` and `help` are the value's name and the text
+/// in help.
 pub(crate) fn required_option<'a>(
     alloc: Global,
     id: &'a str,
@@ -58,21 +62,22 @@ pub(crate) fn required_option<'a>(
         .required(true)
 }
 
-/// The option `--id` with a value, whose name in help is `value`; a line may give it several times.
+/// Makes the option `--id` with a value, which a line may give several times. `value` and `help` are the value's name
+/// and the text in help.
 fn repeated_option<'a>(alloc: Global, id: &'a str, value: &'a str, help: &'a str) -> Arg<'a>
     ensures { rule_of result ≡ repeated_rule id.entry.now }
 {
     option_with_value(alloc, id, id, value, help).action(ArgAction::Append)
 }
 
-/// The argument that names the graph file.
+/// Makes the argument that names the graph file.
 pub(crate) fn graph_argument<'a>(alloc: Global) -> Arg<'a>
     ensures { rule_of result ≡ graph_rule }
 {
     positional(alloc, "graph", "GRAPH", "The task graph, a JSON file")
 }
 
-/// The option `--zone-file`, which names the zone file.
+/// Makes the option `--zone-file`, which names the file for a graph whose zone is `file`.
 pub(crate) fn zone_file_option<'a>(alloc: Global) -> Arg<'a>
     ensures { rule_of result ≡ zone_file_rule }
 {
@@ -85,7 +90,7 @@ pub(crate) fn zone_file_option<'a>(alloc: Global) -> Arg<'a>
     )
 }
 
-/// The flag `--explain` of `check`, by which all that is wrong with a graph is told.
+/// Makes the flag `--explain` of `check`, which tells all that is wrong with a graph.
 pub(crate) fn explain_flag<'a>(alloc: Global) -> Arg<'a>
     ensures { rule_of result ≡ explain_rule }
 {
@@ -97,7 +102,7 @@ pub(crate) fn explain_flag<'a>(alloc: Global) -> Arg<'a>
         .action(ArgAction::SetTrue)
 }
 
-/// The argument that names the table file.
+/// Makes the argument that names the table file.
 pub(crate) fn table_argument<'a>(alloc: Global) -> Arg<'a>
     ensures { rule_of result ≡ table_rule }
 {
@@ -109,7 +114,7 @@ pub(crate) fn table_argument<'a>(alloc: Global) -> Arg<'a>
     )
 }
 
-/// The option `--from`, the first moment, itself included, at which a data interval may start.
+/// Makes the option `--from`, the first moment at which a data interval may start.
 pub(crate) fn from_option<'a>(alloc: Global) -> Arg<'a>
     ensures { rule_of result ≡ from_rule }
 {
@@ -122,7 +127,7 @@ pub(crate) fn from_option<'a>(alloc: Global) -> Arg<'a>
     )
 }
 
-/// The option `--to`, the last moment, itself included, at which a data interval may start.
+/// Makes the option `--to`, the last moment at which a data interval may start.
 pub(crate) fn to_option<'a>(alloc: Global) -> Arg<'a>
     ensures { rule_of result ≡ to_rule }
 {
@@ -135,7 +140,7 @@ pub(crate) fn to_option<'a>(alloc: Global) -> Arg<'a>
     )
 }
 
-/// The option `--on`, the days on which data intervals start, in place of `--from` and `--to`.
+/// Makes the option `--on`, the days on which data intervals start, in place of `--from` and `--to`.
 pub(crate) fn on_option<'a>(alloc: Global) -> Arg<'a>
     ensures { rule_of result ≡ on_rule }
 {
@@ -148,7 +153,7 @@ pub(crate) fn on_option<'a>(alloc: Global) -> Arg<'a>
     )
 }
 
-/// The flag `--some`, by which a range without runs is refused.
+/// Makes the flag `--some`, which refuses a range without runs.
 pub(crate) fn some_flag<'a>(alloc: Global) -> Arg<'a>
     ensures { rule_of result ≡ some_rule }
 {
@@ -158,7 +163,7 @@ pub(crate) fn some_flag<'a>(alloc: Global) -> Arg<'a>
         .action(ArgAction::SetTrue)
 }
 
-/// The option `--workers`, how many tries may run at once, from 1 to 64.
+/// Makes the option `--workers`, how many tries may run at once, 1 to 64.
 pub(crate) fn workers_option<'a>(alloc: Global) -> Arg<'a>
     ensures { rule_of result ≡ workers_rule }
 {
@@ -172,7 +177,7 @@ pub(crate) fn workers_option<'a>(alloc: Global) -> Arg<'a>
     .value_parser(value_parser!(u32).range(1..=i64::from(MOST_WORKERS)))
 }
 
-/// The flag `--progress`, by which is told how far the runs are.
+/// Makes the flag `--progress`, which tells how far the runs are.
 pub(crate) fn progress_flag<'a>(alloc: Global) -> Arg<'a>
     ensures { rule_of result ≡ progress_rule }
 {
@@ -182,7 +187,7 @@ pub(crate) fn progress_flag<'a>(alloc: Global) -> Arg<'a>
         .action(ArgAction::SetTrue)
 }
 
-/// The option `--out`, which names the file that the report goes to.
+/// Makes the option `--out`, which names the file that the report goes to.
 pub(crate) fn out_option<'a>(alloc: Global) -> Arg<'a>
     ensures { rule_of result ≡ out_rule }
 {
@@ -195,7 +200,7 @@ pub(crate) fn out_option<'a>(alloc: Global) -> Arg<'a>
     )
 }
 
-/// The option `--keep`, which names a report whose tries are kept.
+/// Makes the option `--keep`, which names a report whose tries are kept.
 pub(crate) fn keep_option<'a>(alloc: Global) -> Arg<'a>
     ensures { rule_of result ≡ keep_rule }
 {
@@ -208,7 +213,7 @@ pub(crate) fn keep_option<'a>(alloc: Global) -> Arg<'a>
     )
 }
 
-/// The option `--launcher`, which names the program that starts commands.
+/// Makes the option `--launcher`, which names the program that is handed the words of each command.
 pub(crate) fn launcher_option<'a>(alloc: Global) -> Arg<'a>
     ensures { rule_of result ≡ launcher_rule }
 {
@@ -221,7 +226,7 @@ pub(crate) fn launcher_option<'a>(alloc: Global) -> Arg<'a>
     )
 }
 
-/// The option `--logs`, which names the folder of logs.
+/// Makes the option `--logs`, which names the folder of logs.
 pub(crate) fn logs_option<'a>(alloc: Global) -> Arg<'a>
     ensures { rule_of result ≡ logs_rule }
 {
@@ -234,7 +239,7 @@ pub(crate) fn logs_option<'a>(alloc: Global) -> Arg<'a>
     )
 }
 
-/// The option `--journal` of commands that start programs, which names the file that tries are recorded in.
+/// Makes the option `--journal` of commands that start programs, which names the file to record tries in.
 pub(crate) fn journal_option<'a>(alloc: Global) -> Arg<'a>
     ensures { rule_of result ≡ journal_rule }
 {
@@ -247,7 +252,7 @@ pub(crate) fn journal_option<'a>(alloc: Global) -> Arg<'a>
     )
 }
 
-/// The option `--stop-after`, behind how many failed tries, at least 1, no further one begins.
+/// Makes the option `--stop-after`, after how many failed tries, 1 or more, no further one begins.
 pub(crate) fn stop_after_option<'a>(alloc: Global) -> Arg<'a>
     ensures { rule_of result ≡ stop_after_rule }
 {
@@ -261,7 +266,7 @@ pub(crate) fn stop_after_option<'a>(alloc: Global) -> Arg<'a>
     .value_parser(value_parser!(u32).range(1..))
 }
 
-/// The flag `--retry-failed`, by which failed tries of the journal are made again.
+/// Makes the flag `--retry-failed`, which makes failed tries of the journal again.
 pub(crate) fn retry_failed_flag<'a>(alloc: Global) -> Arg<'a>
     ensures { rule_of result ≡ retry_failed_rule }
 {
@@ -271,7 +276,7 @@ pub(crate) fn retry_failed_flag<'a>(alloc: Global) -> Arg<'a>
         .action(ArgAction::SetTrue)
 }
 
-/// The flag `--quiet`, by which neither progress nor failed tries are told.
+/// Makes the flag `--quiet`, which tells neither progress nor failed tries.
 pub(crate) fn quiet_flag<'a>(alloc: Global) -> Arg<'a>
     ensures { rule_of result ≡ quiet_rule }
 {
@@ -281,7 +286,7 @@ pub(crate) fn quiet_flag<'a>(alloc: Global) -> Arg<'a>
         .action(ArgAction::SetTrue)
 }
 
-/// The option `--task` of `clear`, a task that is cleared; it may be given several times.
+/// Makes the option `--task` of `clear`, a task to clear; a line may give it several times.
 pub(crate) fn task_option<'a>(alloc: Global) -> Arg<'a>
     ensures { rule_of result ≡ task_rule }
 {
@@ -293,7 +298,8 @@ pub(crate) fn task_option<'a>(alloc: Global) -> Arg<'a>
     )
 }
 
-/// The option `--run` of `clear`, the run in which a task is cleared; it may be given several times.
+/// Makes the option `--run` of `clear`, the logical date of the run in which a task is cleared; a line may give it
+/// several times.
 pub(crate) fn run_option<'a>(alloc: Global) -> Arg<'a>
     ensures { rule_of result ≡ run_rule }
 {
@@ -305,7 +311,7 @@ pub(crate) fn run_option<'a>(alloc: Global) -> Arg<'a>
     )
 }
 
-/// The option `--index` of `clear`, the map index, at least -1, of an instance that is cleared alone; it may be given
+/// Makes the option `--index` of `clear`, the map index, -1 or more, of a single instance to clear; a line may give it
 /// several times.
 pub(crate) fn index_option<'a>(alloc: Global) -> Arg<'a>
     ensures { rule_of result ≡ index_rule }
@@ -319,7 +325,7 @@ pub(crate) fn index_option<'a>(alloc: Global) -> Arg<'a>
     .value_parser(value_parser!(i32).range(-1..))
 }
 
-/// The option `--seeds` of `clear`, which names a file of what is cleared.
+/// Makes the option `--seeds` of `clear`, which names a file of what to clear.
 pub(crate) fn seeds_option<'a>(alloc: Global) -> Arg<'a>
     ensures { rule_of result ≡ seeds_rule }
 {
@@ -332,7 +338,7 @@ pub(crate) fn seeds_option<'a>(alloc: Global) -> Arg<'a>
     )
 }
 
-/// The flag `--failed` of `clear`, by which each failed instance is cleared.
+/// Makes the flag `--failed` of `clear`, which clears each failed instance.
 pub(crate) fn failed_flag<'a>(alloc: Global) -> Arg<'a>
     ensures { rule_of result ≡ failed_rule }
 {
@@ -342,7 +348,7 @@ pub(crate) fn failed_flag<'a>(alloc: Global) -> Arg<'a>
         .action(ArgAction::SetTrue)
 }
 
-/// The flag `--plan` of `clear`, by which is only printed what would be cleared.
+/// Makes the flag `--plan` of `clear`, which only prints what would be cleared.
 pub(crate) fn plan_flag<'a>(alloc: Global) -> Arg<'a>
     ensures { rule_of result ≡ plan_rule }
 {

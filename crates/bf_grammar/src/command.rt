@@ -56,7 +56,7 @@ const SCHEMA_EXAMPLE: &str = "Example:\n\
 const COMPLETIONS_EXAMPLE: &str = "Example, of a file for bash to source:\n\
     \x20 backfill completions bash > backfill.bash";
 
-/// The command, with the options of commands that start programs behind its own.
+/// Adds the options of commands that start programs: `--launcher`, `--logs`, the journal's, and `--quiet`.
 fn with_program_options<'a>(alloc: Global, command: Draft<'a>) -> Draft<'a>
     ensures { (app : App) → IsDraftOf app command.entry → IsDraftOf (programs_app app) result }
 {
@@ -69,8 +69,8 @@ fn with_program_options<'a>(alloc: Global, command: Draft<'a>) -> Draft<'a>
         .arg(quiet_flag(alloc))
 }
 
-/// The command `name`, with a graph file and `--zone-file` for arguments. Its help begins with `about` and ends with
-/// `examples`.
+/// Makes the command `name` with a graph file and `--zone-file` for arguments. Its help begins with `about` and ends
+/// with `examples`.
 pub(crate) fn new_graph_command<'a>(
     alloc: Global,
     name: &'a str,
@@ -84,7 +84,7 @@ pub(crate) fn new_graph_command<'a>(
         .arg(zone_file_option(alloc))
 }
 
-/// The command with the options that say where data intervals start, behind its own.
+/// Adds the options that say where data intervals start: `--from`, `--to`, `--on` and `--some`.
 fn with_range_options<'a>(alloc: Global, command: Draft<'a>) -> Draft<'a>
     ensures { (app : App) → IsDraftOf app command.entry → IsDraftOf (dated_app app) result }
 {
@@ -95,8 +95,7 @@ fn with_range_options<'a>(alloc: Global, command: Draft<'a>) -> Draft<'a>
         .arg(some_flag(alloc))
 }
 
-/// The command, with the options of a backfill behind its own: its range, its workers, its progress and its report's
-/// file.
+/// Adds the options of a backfill: those of its range, `--workers`, `--progress` and `--out`.
 fn with_backfill_options<'a>(alloc: Global, command: Draft<'a>) -> Draft<'a>
     ensures { (app : App) → IsDraftOf app command.entry → IsDraftOf (ranged_app app) result }
 {
@@ -106,7 +105,7 @@ fn with_backfill_options<'a>(alloc: Global, command: Draft<'a>) -> Draft<'a>
         .arg(out_option(alloc))
 }
 
-/// The command with the options that say what is cleared, behind its own.
+/// Adds the options that say what to clear, and `--plan`.
 fn with_cleared_options<'a>(alloc: Global, command: Draft<'a>) -> Draft<'a>
     ensures { (app : App) → IsDraftOf app command.entry → IsDraftOf (cleared_app app) result }
 {
@@ -119,7 +118,7 @@ fn with_cleared_options<'a>(alloc: Global, command: Draft<'a>) -> Draft<'a>
         .arg(plan_flag(alloc))
 }
 
-/// The command `check` as `clap` is told it.
+/// Makes the grammar of the command `check`.
 fn check_command<'a>(alloc: Global) -> Draft<'a>
     ensures { IsDraftOf check_app result }
 {
@@ -132,7 +131,7 @@ fn check_command<'a>(alloc: Global) -> Draft<'a>
     .arg(explain_flag(alloc))
 }
 
-/// The command `list` as `clap` is told it.
+/// Makes the grammar of the command `list`.
 pub(crate) fn list_command<'a>(alloc: Global) -> Draft<'a>
     ensures { IsDraftOf list_app result }
 {
@@ -145,7 +144,7 @@ pub(crate) fn list_command<'a>(alloc: Global) -> Draft<'a>
     with_range_options(alloc, command)
 }
 
-/// The command `single` as `clap` is told it.
+/// Makes the grammar of the command `single`.
 pub(crate) fn single_command<'a>(alloc: Global) -> Draft<'a>
     ensures { IsDraftOf single_app result }
 {
@@ -165,7 +164,7 @@ pub(crate) fn single_command<'a>(alloc: Global) -> Draft<'a>
     .arg(out_option(alloc))
 }
 
-/// The command `dry` as `clap` is told it.
+/// Makes the grammar of the command `dry`.
 pub(crate) fn dry_command<'a>(alloc: Global) -> Draft<'a>
     ensures { IsDraftOf dry_app result }
 {
@@ -178,7 +177,7 @@ pub(crate) fn dry_command<'a>(alloc: Global) -> Draft<'a>
     with_backfill_options(alloc, command.arg(table_argument(alloc))).arg(keep_option(alloc))
 }
 
-/// The command `run` as `clap` is told it.
+/// Makes the grammar of the command `run`.
 pub(crate) fn run_command<'a>(alloc: Global) -> Draft<'a>
     ensures { IsDraftOf run_app result }
 {
@@ -194,7 +193,7 @@ pub(crate) fn run_command<'a>(alloc: Global) -> Draft<'a>
     )
 }
 
-/// The command `clear` as `clap` is told it.
+/// Makes the grammar of the command `clear`.
 pub(crate) fn clear_command<'a>(alloc: Global) -> Draft<'a>
     ensures { IsDraftOf clear_app result }
 {
@@ -220,7 +219,7 @@ pub(crate) fn clear_command<'a>(alloc: Global) -> Draft<'a>
     with_program_options(alloc, with_backfill_options(alloc, command))
 }
 
-/// The command `show` with its files and its range, and without its other options.
+/// Makes the command `show` with its files and its range, without its other options.
 fn ranged_show_command<'a>(alloc: Global) -> Draft<'a>
     ensures { IsDraftOf showing_app result }
 {
@@ -237,7 +236,7 @@ fn ranged_show_command<'a>(alloc: Global) -> Draft<'a>
     .arg(shown_to_option(alloc))
 }
 
-/// The command `show` as `clap` is told it.
+/// Makes the grammar of the command `show`.
 pub(crate) fn show_command<'a>(alloc: Global) -> Draft<'a>
     ensures { IsDraftOf show_app result }
 {
@@ -248,7 +247,7 @@ pub(crate) fn show_command<'a>(alloc: Global) -> Draft<'a>
         .arg(json_option(alloc))
 }
 
-/// The command `schema` as `clap` is told it.
+/// Makes the grammar of the command `schema`.
 pub(crate) fn schema_command<'a>(alloc: Global) -> Draft<'a>
     ensures { IsDraftOf schema_app result }
 {
@@ -266,7 +265,7 @@ pub(crate) fn schema_command<'a>(alloc: Global) -> Draft<'a>
     ))
 }
 
-/// The command `completions` as `clap` is told it.
+/// Makes the grammar of the command `completions`.
 pub(crate) fn completions_command<'a>(alloc: Global) -> Draft<'a>
     ensures { IsDraftOf completions_app result }
 {
@@ -279,7 +278,7 @@ pub(crate) fn completions_command<'a>(alloc: Global) -> Draft<'a>
     .arg(positional(alloc, "shell", "SHELL", "The shell, bash, zsh or fish"))
 }
 
-/// The command line `backfill` without any command.
+/// Makes the command line `backfill` without its commands; a line has to have one.
 fn line_without_commands<'a>(alloc: Global) -> Draft<'a>
     ensures { IsDraftOf bare_app result }
 {
@@ -293,7 +292,7 @@ fn line_without_commands<'a>(alloc: Global) -> Draft<'a>
     }
 }
 
-/// The command line with the commands that start no program.
+/// Makes the command line with `check`, `list`, `single` and `dry`, which start no program.
 fn line_without_programs<'a>(alloc: Global) -> Draft<'a>
     ensures { IsDraftOf answered_app result }
 {
@@ -304,7 +303,7 @@ fn line_without_programs<'a>(alloc: Global) -> Draft<'a>
         .subcommand(dry_command(alloc))
 }
 
-/// The command line with the commands that start no program, and `run` and `clear`.
+/// Makes the command line with `check`, `list`, `single`, `dry`, `run` and `clear`.
 fn line_with_programs<'a>(alloc: Global) -> Draft<'a>
     ensures { IsDraftOf running_app result }
 {
@@ -313,7 +312,7 @@ fn line_with_programs<'a>(alloc: Global) -> Draft<'a>
         .subcommand(clear_command(alloc))
 }
 
-/// The command line with the commands that start no program, `run` and `clear`, and those that show a report.
+/// Makes the command line with all commands except `schema` and `completions`.
 fn line_with_views<'a>(alloc: Global) -> Draft<'a>
     ensures { IsDraftOf viewing_app result }
 {
@@ -324,7 +323,7 @@ fn line_with_views<'a>(alloc: Global) -> Draft<'a>
         .subcommand(viewing::answers_command(alloc))
 }
 
-/// The whole command line `backfill` with all its commands, as `clap` is told it.
+/// Makes the whole grammar of the command line, by which `clap` takes a line apart.
 pub fn backfill_command<'a>(alloc: Global) -> Result<Command<'a>, AllocError>
     ensures { IfOk result (λ c. app_of c ≡ backfill_app) }
 {

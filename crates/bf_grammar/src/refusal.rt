@@ -12,8 +12,8 @@ use clap::Error;
 use clap::error::ErrorKind;
 use std::alloc::{AllocError, Global};
 
-/// The command `name`, one of those that refuse more than `clap` does, and how its usage begins; `clear` for any name
-/// not listed. Contracts say nothing of its words.
+/// Answers the grammar of a command that refuses more than `clap` does, and how its usage begins; that of `clear` for
+/// any name not listed. No contract speaks of these words.
 fn command_and_usage<'a>(alloc: Global, name: &str) -> (Draft<'a>, &'static str) {
     match name {
         "list" => (list_command(alloc), "backfill list"),
@@ -28,7 +28,7 @@ fn command_and_usage<'a>(alloc: Global, name: &str) -> (Draft<'a>, &'static str)
     }
 }
 
-/// The error by which `clap` refuses a line of the command `name`: `text`, and the command's usage.
+/// Makes an error as `clap` words it where it refuses a line of the command `name`: `text`, and the command's usage.
 pub fn refusal_of(
     alloc: Global,
     name: &str,
@@ -37,6 +37,6 @@ pub fn refusal_of(
 ) -> Result<Error, AllocError>
     ensures { IfOk result (λ e. kind_of e ≡ kind) }
 {
-    let (command, begin) = command_and_usage(alloc, name);
-    command.command?.bin_name(begin)?.error(kind, text)
+    let (command, usage) = command_and_usage(alloc, name);
+    command.command?.bin_name(usage)?.error(kind, text)
 }

@@ -7,7 +7,7 @@ use crate::argument::option_with_value;
 use clap::{Arg, ArgAction, value_parser};
 use std::alloc::Global;
 
-/// The option `--from` of `show`, the first moment, itself included, at which runs that are shown may start.
+/// Makes the option `--from` of `show`, the first moment at which a run that is shown may start.
 pub(crate) fn shown_from_option<'a>(alloc: Global) -> Arg<'a>
     ensures { rule_of result ≡ from_rule }
 {
@@ -20,7 +20,7 @@ pub(crate) fn shown_from_option<'a>(alloc: Global) -> Arg<'a>
     )
 }
 
-/// The option `--to` of `show`, the last moment, itself included, at which runs that are shown may start.
+/// Makes the option `--to` of `show`, the last moment at which a run that is shown may start.
 pub(crate) fn shown_to_option<'a>(alloc: Global) -> Arg<'a>
     ensures { rule_of result ≡ to_rule }
 {
@@ -33,8 +33,8 @@ pub(crate) fn shown_to_option<'a>(alloc: Global) -> Arg<'a>
     )
 }
 
-/// The flag `--failed` of `show`, by which only tasks and runs with something failed, upstream_failed or without a
-/// status are shown.
+/// Makes the flag `--failed` of `show`, which shows only tasks and runs with something failed, upstream_failed or
+/// without a status.
 pub(crate) fn shown_failed_flag<'a>(alloc: Global) -> Arg<'a>
     ensures { rule_of result ≡ failed_rule }
 {
@@ -46,7 +46,7 @@ pub(crate) fn shown_failed_flag<'a>(alloc: Global) -> Arg<'a>
         .action(ArgAction::SetTrue)
 }
 
-/// The option `--width` of `show`, the width of the grid in characters, from 20 to 10,000.
+/// Makes the option `--width` of `show`, the width of the grid in characters, 20 to 10,000.
 pub(crate) fn width_option<'a>(alloc: Global) -> Arg<'a>
     ensures { rule_of result ≡ width_rule }
 {
@@ -60,7 +60,8 @@ pub(crate) fn width_option<'a>(alloc: Global) -> Arg<'a>
     .value_parser(value_parser!(u32).range(20..=10_000))
 }
 
-/// The option `--color` of `show`, when to colour the grid. Which words it takes isn't said to `clap`.
+/// Makes the option `--color` of `show`, when to colour the grid. `clap` takes any word here; bf_command_line refuses
+/// unknown ones.
 pub(crate) fn color_option<'a>(alloc: Global) -> Arg<'a>
     ensures { rule_of result ≡ color_rule }
 {
@@ -73,7 +74,7 @@ pub(crate) fn color_option<'a>(alloc: Global) -> Arg<'a>
     )
 }
 
-/// The option `--json` of `show`, which names a report that is printed as lines of JSON.
+/// Makes the option `--json` of `show`, which names a report to print as lines of JSON.
 pub(crate) fn json_option<'a>(alloc: Global) -> Arg<'a>
     ensures { rule_of result ≡ json_rule }
 {

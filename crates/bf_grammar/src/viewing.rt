@@ -20,7 +20,7 @@ const EXPLAIN_EXAMPLES: &str = "Examples:\n\
 const ANSWERS_EXAMPLE: &str = "Example:\n\
     \x20 backfill answers examples/failed_day/report.txt > table.json";
 
-/// The flag `--states-only` of `page`, by which the report is left out of the page.
+/// Makes the flag `--states-only` of `page`, which leaves the report's text out of the page.
 fn states_only_flag<'a>(alloc: Global) -> Arg<'a>
     ensures { rule_of result ≡ states_only_rule }
 {
@@ -32,8 +32,8 @@ fn states_only_flag<'a>(alloc: Global) -> Arg<'a>
         .action(ArgAction::SetTrue)
 }
 
-/// The option `--journal` of `page`, which names a journal that has times.
-fn journal_option<'a>(alloc: Global) -> Arg<'a>
+/// Makes the option `--journal` of `page`, which names a journal to take the times of tries from.
+fn page_journal_option<'a>(alloc: Global) -> Arg<'a>
     ensures { rule_of result ≡ journal_rule }
 {
     option_with_value(
@@ -45,8 +45,8 @@ fn journal_option<'a>(alloc: Global) -> Arg<'a>
     )
 }
 
-/// The option `--run` of `explain`, the logical date of the run.
-fn run_option<'a>(alloc: Global) -> Arg<'a>
+/// Makes the option `--run` of `explain`, the logical date of the run, which a line must have.
+fn explained_run_option<'a>(alloc: Global) -> Arg<'a>
     ensures { rule_of result ≡ one_run_rule }
 {
     required_option(
@@ -57,8 +57,8 @@ fn run_option<'a>(alloc: Global) -> Arg<'a>
     )
 }
 
-/// The option `--task` of `explain`, the id of the task.
-fn task_option<'a>(alloc: Global) -> Arg<'a>
+/// Makes the option `--task` of `explain`, the id of the task.
+fn explained_task_option<'a>(alloc: Global) -> Arg<'a>
     ensures { rule_of result ≡ one_task_rule }
 {
     option_with_value(
@@ -70,8 +70,8 @@ fn task_option<'a>(alloc: Global) -> Arg<'a>
     )
 }
 
-/// The option `--index` of `explain`, the map index, at least -1, of one instance.
-fn index_option<'a>(alloc: Global) -> Arg<'a>
+/// Makes the option `--index` of `explain`, the map index, -1 or more, of a single instance.
+fn explained_index_option<'a>(alloc: Global) -> Arg<'a>
     ensures { rule_of result ≡ one_index_rule }
 {
     option_with_value(
@@ -84,8 +84,8 @@ fn index_option<'a>(alloc: Global) -> Arg<'a>
     .value_parser(value_parser!(i32).range(-1..))
 }
 
-/// The command `name`, with a graph file, `--zone-file` and a report for arguments. `report` is the help on the
-/// report; its own help begins with `about` and ends with `examples`.
+/// Makes the command `name` with a graph file, `--zone-file` and a report for arguments. Its help begins with `about`
+/// and ends with `examples`; `report` is the text on the report.
 fn new_report_command<'a>(
     alloc: Global,
     name: &'a str,
@@ -100,7 +100,7 @@ fn new_report_command<'a>(
     ))
 }
 
-/// The command `page` as `clap` is told it.
+/// Makes the grammar of the command `page`.
 pub(crate) fn page_command<'a>(alloc: Global) -> Draft<'a>
     ensures { IsDraftOf page_app result }
 {
@@ -112,10 +112,10 @@ pub(crate) fn page_command<'a>(alloc: Global) -> Draft<'a>
         PAGE_EXAMPLE,
     )
     .arg(states_only_flag(alloc))
-    .arg(journal_option(alloc))
+    .arg(page_journal_option(alloc))
 }
 
-/// The command `explain` as `clap` is told it.
+/// Makes the grammar of the command `explain`.
 pub(crate) fn explain_command<'a>(alloc: Global) -> Draft<'a>
     ensures { IsDraftOf explain_app result }
 {
@@ -126,12 +126,12 @@ pub(crate) fn explain_command<'a>(alloc: Global) -> Draft<'a>
         "The report that has it",
         EXPLAIN_EXAMPLES,
     )
-    .arg(run_option(alloc))
-    .arg(task_option(alloc))
-    .arg(index_option(alloc))
+    .arg(explained_run_option(alloc))
+    .arg(explained_task_option(alloc))
+    .arg(explained_index_option(alloc))
 }
 
-/// The command `answers` as `clap` is told it.
+/// Makes the grammar of the command `answers`.
 pub(crate) fn answers_command<'a>(alloc: Global) -> Draft<'a>
     ensures { IsDraftOf answers_app result }
 {

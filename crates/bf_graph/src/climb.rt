@@ -11,7 +11,8 @@ use crate::reach::row_without_marks;
 use bf_value::OutOfMemory;
 use std::alloc::Global;
 
-/// Ranks so far, and a path from a task up to an upstream without rank, and so on.
+/// The ranks found so far, and a path that climbs from a task to an upstream without a rank, from there to the next,
+/// and so on.
 #[derive(Drop)]
 struct Climb {
     found: Found,
@@ -22,8 +23,8 @@ struct Climb {
     passed: Vec<usize>,
 }
 
-/// The index in `upstreams`, at or after `from`, of the first task without a rank in `ranks`; None where all have
-/// one.
+/// The index in `upstreams`, at or after `from`, of the first task without a rank in `ranks`; None where all from there
+/// on have one.
 fn first_unranked_from(ranks: &[Option<u32>], upstreams: &[u32], from: usize) -> Option<usize>
     requires { (u : ℕ) → Contains upstreams.now u → u < length ranks.now }
     ensures { MatchOption result
@@ -39,7 +40,7 @@ fn first_unranked_from(ranks: &[Option<u32>], upstreams: &[u32], from: usize) ->
 }
 
 impl Climb {
-    /// A climb of a graph with `n` tasks, on which nothing is found yet.
+    /// A climb of a graph with `n` tasks, in which no rank is found yet.
     fn new(alloc: Global, n: usize) -> Result<Climb, OutOfMemory>
         ensures { IfOk result (λ c. (edges : List (Vec ℕ Global)) → length edges ≡ n
             → IsDown edges c) }
@@ -52,8 +53,8 @@ impl Climb {
         })
     }
 
-    /// Ranks the task `start`, which has no rank yet, and its ancestors that have none; false where they lie on a
-    /// cycle.
+    /// Gives ranks to the task `start`, which has none yet, and to its ancestors that have none, and answers true;
+    /// false where the edges have a cycle.
     fn rank_with_ancestors(
         &mut self,
         alloc: Global,
@@ -91,7 +92,7 @@ impl Climb {
     }
 }
 
-/// The rank of each task and which tasks reach it; None where the edges have a cycle. `edges` has each task's
+/// The rank of each task, and which tasks reach it; None where the edges have a cycle. `edges` has each task's
 /// upstreams.
 pub(crate) fn find_ranks_and_reach(
     alloc: Global,

@@ -54,7 +54,7 @@ impl Graph {
         self.ids.number_of(id)
     }
 
-    /// The id of the task with a number.
+    /// The id of the task with this number, from 0 in file order.
     pub fn task(&self, task: u32) -> &str
         requires { task < length self.now.upstreams }
         ensures { slice_get self.now.ids task ≡ Some result.now }
@@ -79,7 +79,7 @@ impl Graph {
         self.edges[task as usize].as_slice()
     }
 
-    /// The tasks of which a task is a direct upstream, in file order, each once.
+    /// The direct downstreams of a task, in file order, each once.
     pub fn downstreams(&self, task: u32) -> &[u32]
         requires { task < length self.now.upstreams }
         ensures { IsRisingListOf (IsUpstream self.now.upstreams task) result.now }
@@ -94,7 +94,7 @@ impl Graph {
         self.leaves.as_slice()
     }
 
-    /// The number of edges of the longest path that ends in a task, so 0 for a task without upstreams.
+    /// The rank of a task: the number of edges of the longest path that ends in it, so 0 for a task without upstreams.
     pub fn rank(&self, task: u32) -> u32
         requires { task < length self.now.upstreams }
         ensures { IsRank self.now.upstreams task result }
@@ -111,7 +111,7 @@ impl Graph {
         self.rows[to as usize][from as usize]
     }
 
-    /// The tasks that a task reaches, in file order.
+    /// The tasks that can be reached from a task by one edge or more, in file order.
     pub fn descendants(&self, alloc: Global, task: u32) -> Result<Vec<u32>, OutOfMemory>
         requires { task < length self.now.upstreams }
         ensures { IfOk result (λ tasks. IsRisingListOf
@@ -121,7 +121,7 @@ impl Graph {
         marked_places(alloc, reached.as_slice())
     }
 
-    /// The tasks that reach a task, in file order.
+    /// The tasks from which a task can be reached by one edge or more, in file order.
     pub fn ancestors(&self, alloc: Global, task: u32) -> Result<Vec<u32>, OutOfMemory>
         requires { task < length self.now.upstreams }
         ensures { IfOk result (λ tasks. IsRisingListOf
@@ -130,7 +130,7 @@ impl Graph {
         marked_places(alloc, self.rows[task as usize].as_slice())
     }
 
-    /// The tasks by rank, and those of one rank in file order.
+    /// All tasks, sorted by rank, and those of one rank in file order.
     pub fn by_rank(&self, alloc: Global) -> Result<Vec<u32>, OutOfMemory>
         ensures order { IfOk result (λ tasks. IsByRank self.now.upstreams tasks.items) }
         ensures behind { IfOk result (λ tasks. StandBehind self.now.upstreams tasks.items) }
@@ -160,7 +160,7 @@ impl Graph {
         let _ranks = &self.ranks;
     }
 
-    /// A law: there is no cycle.
+    /// A law: the graph has no cycle.
     pub fn edges_are_acyclic(&self)
         ensures { IsAcyclic self.now.upstreams }
     {
@@ -191,12 +191,13 @@ impl From<OutOfMemory> for GraphFault {
 
     ghost from_gives = { λ _ e. e ≡ OutOfMemory };
 
+    /// Want of memory is the fault `OutOfMemory`.
     fn from(_e: OutOfMemory) -> GraphFault {
         GraphFault::OutOfMemory
     }
 }
 
-/// The ranks of tasks, which all have one (0 would stand for a missing one).
+/// The rank of each task; 0 would stand for a missing one.
 fn unwrapped_ranks(alloc: Global, ranks: &[Option<u32>]) -> Result<Vec<u32>, OutOfMemory>
     ensures { IfOk result (λ v. v.items ≡ map (λ r. unwrap_or r 0) ranks.now) }
 {
@@ -206,8 +207,8 @@ fn unwrapped_ranks(alloc: Global, ranks: &[Option<u32>]) -> Result<Vec<u32>, Out
 impl Graph {
     ghost use Rattle.bf_graph.specs.Faults.{IsRightFault};
 
-    /// The graph of the tasks with these ids, in file order, and for each the numbers of its upstreams. The fault
-    /// `Cycle` comes exactly where the edges have a cycle, which it names.
+    /// Builds the graph of the tasks with these ids, in file order; `upstreams` has the numbers of each one's
+    /// upstreams. `Cycle` where the edges have a cycle, which it names; `OutOfMemory` at want of memory.
     pub fn build(
         alloc: Global,
         ids: Vec<String>,
@@ -231,7 +232,8 @@ impl Graph {
         Ok(Graph::from_ranks_and_reach(alloc, ids, upstreams, found)?)
     }
 
-    /// The graph of the tasks with these ids and upstreams, which have no cycle; `found` has their ranks and reach.
+    /// Builds the graph of the tasks with these ids and upstreams, which have no cycle; `found` has their ranks and
+    /// reach.
     fn from_ranks_and_reach(
         alloc: Global,
         ids: Vec<String>,
@@ -264,7 +266,7 @@ impl Graph {
     }
 }
 
-/// Each task with its rank before it, in file order.
+/// For each task, in file order, the pair of its rank and its number.
 fn rank_and_task_pairs(alloc: Global, ranks: &[u32]) -> Result<Vec<(u32, u32)>, OutOfMemory>
     requires { length ranks.now < 2 ^ 32 }
     ensures { IfOk result (λ pairs. pairs.items ≡ ranked_tasks ranks.now) }
@@ -278,7 +280,7 @@ fn rank_and_task_pairs(alloc: Global, ranks: &[u32]) -> Result<Vec<(u32, u32)>, 
     )
 }
 
-/// The pairs of a rank and a task, sorted by rank, and those of one rank by task.
+/// These pairs of a rank and a task, sorted by rank, and those of one rank by task.
 fn sorted_by_rank(mut pairs: Vec<(u32, u32)>) -> Vec<(u32, u32)>
     ensures same { IsPermutation pairs.items result.items }
     ensures sorted { IsSorted pair_cmp result.items }
@@ -287,7 +289,7 @@ fn sorted_by_rank(mut pairs: Vec<(u32, u32)>) -> Vec<(u32, u32)>
     pairs
 }
 
-/// The tasks of pairs of a rank and a task, in order.
+/// The tasks of these pairs of a rank and a task, in the same order.
 fn tasks_of(alloc: Global, pairs: &[(u32, u32)]) -> Result<Vec<u32>, OutOfMemory>
     ensures { IfOk result (λ tasks. tasks.items ≡ map (λ p. p.1) pairs.now) }
 {

@@ -29,7 +29,7 @@ impl Model for Ids {
 }
 
 impl Ids {
-    /// The ids, numbered in order from 0.
+    /// Numbers these ids in order from 0.
     pub fn from_distinct(alloc: Global, ids: Vec<String>) -> Result<Ids, OutOfMemory>
         requires distinct { AreDistinct (texts ids.items) }
         requires few { length ids.items + 1 < 2 ^ 32 }
@@ -39,14 +39,14 @@ impl Ids {
         Ok(Ids { ids, numbers })
     }
 
-    /// The number of an id, from 0; None where it is none of these.
+    /// The number of an id, from 0; None where it isn't among these ids.
     pub fn number_of(&self, id: &str) -> Option<u32>
         ensures { result ≡ position (bytes_eq id.now) self.now }
     {
         self.numbers.get(id).copied()
     }
 
-    /// The id with a number, from 0.
+    /// The id that has this number, from 0.
     pub(crate) fn get(&self, number: u32) -> &str
         requires { number < length self.now }
         ensures { slice_get self.now number ≡ Some result.now }

@@ -9,7 +9,7 @@ ghost use Rattle.bf_graph.specs.inner.Lookups.{AreDownstreamsBelow};
 use bf_value::OutOfMemory;
 use std::alloc::Global;
 
-/// Adds a task at the end of rising ones, none of which is greater, unless it is already the last.
+/// Appends `task` to rising `tasks`, none of which is greater, unless it is the last of them already.
 fn push_if_absent(tasks: &mut Vec<u32>, task: u32) -> Result<(), OutOfMemory>
     requires rising { IsStrictlyIncreasing tasks.old.items }
     requires last { All (λ t. t ≤ task) tasks.old.items }
@@ -25,7 +25,8 @@ fn push_if_absent(tasks: &mut Vec<u32>, task: u32) -> Result<(), OutOfMemory>
     Ok(())
 }
 
-/// Adds `task`, greater than all added before, to the list in `found` of each of its direct upstreams, once.
+/// Appends `task` to the list in `found` of each of its direct upstreams, once to each. Until then the lists have only
+/// lower tasks.
 fn push_as_downstream(
     edges: &[Vec<u32>],
     found: &mut Vec<Vec<u32>>,
@@ -43,7 +44,7 @@ fn push_as_downstream(
     Ok(())
 }
 
-/// For each task those of which it is a direct upstream, in file order, each once.
+/// The direct downstreams of each task, in file order, each once. `edges` has each task's upstreams.
 pub(crate) fn downstreams_of(
     alloc: Global,
     edges: &[Vec<u32>],
@@ -71,7 +72,7 @@ pub(crate) fn empty_lists<T: Drop>(alloc: Global, n: usize) -> Result<Vec<Vec<T>
     Ok(made)
 }
 
-/// A mark for each list: whether it is empty.
+/// For each list, whether it is empty.
 fn marks_of_empty_lists(alloc: Global, lists: &[Vec<u32>]) -> Result<Vec<bool>, OutOfMemory>
     ensures { IfOk result (λ marks. marks.items ≡ map (λ v. length v.items == 0) lists.now) }
 {
@@ -112,7 +113,7 @@ fn is_marked_at(marks: &[bool], place: usize) -> bool
     marks[place]
 }
 
-/// For each row its mark at the index `place`.
+/// The mark of each row at the index `place`, in the order of the rows.
 pub(crate) fn column(
     alloc: Global,
     rows: &[Vec<bool>],

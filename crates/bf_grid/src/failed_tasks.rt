@@ -16,7 +16,7 @@ use bf_report::RunReport;
 use bf_value::OutOfMemory;
 use std::alloc::Global;
 
-/// How many tasks are told.
+/// How many failed tasks get a line of their own.
 const MOST_TOLD: usize = 20;
 
 /// A task, and the starts of the runs in which an instance of it failed.
@@ -26,7 +26,7 @@ pub(crate) struct Failing {
     starts: Vec<Moment>,
 }
 
-/// The starts of those of these runs in which an instance of a task failed, in their order.
+/// The starts of the runs, among these, in which an instance of task number `task` failed, in order.
 fn failed_starts(alloc: Global, runs: &[&RunReport], task: u32) -> Result<Vec<Moment>, OutOfMemory>
     ensures { IfOk result (λ starts. map (λ start. start.at.nanosecond) starts.items
         ≡ failed_starts_of (map (λ run. run.now) runs.now) task) }
@@ -40,8 +40,8 @@ fn failed_starts(alloc: Global, runs: &[&RunReport], task: u32) -> Result<Vec<Mo
     Ok(starts)
 }
 
-/// The place in `found` of the first task that failed in fewer than `count` runs; the length of `found` where there
-/// is none.
+/// The place in `found`, from 0, of the first task that failed in fewer than `count` runs; the length of `found` where
+/// there is none.
 fn place_of(found: &[Failing], count: usize) -> usize
     ensures place { result ≡ first_fewer count found.now }
     ensures within { result ≤ length found.now }
@@ -54,7 +54,7 @@ fn place_of(found: &[Failing], count: usize) -> usize
     found.len()
 }
 
-/// Inserts a task into `found`, behind those that failed in as many runs or more.
+/// Inserts a task before the first one in `found` that failed in fewer runs, or at the end where there is none.
 fn insert_failing(found: &mut Vec<Failing>, failing: Failing) -> Result<(), OutOfMemory>
     ensures { OnOk result (map pair_of found.new.items
         ≡ placed (pair_of failing) (map pair_of found.old.items)) }
@@ -64,7 +64,8 @@ fn insert_failing(found: &mut Vec<Failing>, failing: Failing) -> Result<(), OutO
     Ok(())
 }
 
-/// Those of these tasks that failed in some of these runs, those with the most such runs first.
+/// The tasks, among these, that failed in at least one of these runs, ordered by how many such runs they have, the most
+/// first; tasks with equally many keep their order.
 fn failing_among(
     alloc: Global,
     runs: &[&RunReport],
@@ -89,7 +90,7 @@ fn failing_among(
     Ok(found)
 }
 
-/// How many bytes the longest id of these failing tasks has; 0 where there is none.
+/// The length in bytes of the longest id of these failed tasks; 0 where there are none.
 fn id_width(dag: &Dag, found: &[Failing]) -> usize
     ensures { result ≡ id_width_of dag.now (map pair_of found.now) }
 {
@@ -100,7 +101,7 @@ fn id_width(dag: &Dag, found: &[Failing]) -> usize
     longest
 }
 
-/// How many bytes the text `1 run` or `2 runs` has for `count` runs.
+/// The length in bytes of the text for `count` runs, such as `1 run` or `2 runs`.
 fn runs_width(alloc: Global, count: usize) -> Result<usize, OutOfMemory>
     ensures { IfOk result (λ width. width ≡ length (count_text_of count (codes "run"))) }
 {
@@ -110,8 +111,8 @@ fn runs_width(alloc: Global, count: usize) -> Result<usize, OutOfMemory>
 }
 
 impl Failing {
-    /// Adds the line of a failing task, with its line feed: its id in `longest` bytes, in how many runs it failed in
-    /// `widest` bytes, and when these start.
+    /// Adds the line of a failed task, with its line feed: its id, padded to `longest` bytes, the count of runs in
+    /// which it failed, right-aligned in `widest` bytes, and when these runs start.
     fn push_line(
         &self,
         alloc: Global,
@@ -135,7 +136,8 @@ impl Failing {
     }
 }
 
-/// Adds the lines of failing tasks, their ids in one column and their counts of runs in one of `widest` bytes.
+/// Adds a line for each of these failed tasks, with their ids in one column and their counts of runs, right-aligned, in
+/// another of `widest` bytes.
 fn push_lines(
     alloc: Global,
     text: &mut Vec<u8>,
@@ -154,7 +156,7 @@ fn push_lines(
     Ok(())
 }
 
-/// Adds the line with how many of `count` failing tasks are behind the 20 that have a line; nothing where none is.
+/// Adds the line on how many of `count` failed tasks come after the 20 that have a line; adds nothing where none does.
 fn push_further(alloc: Global, text: &mut Vec<u8>, count: usize) -> Result<(), OutOfMemory>
     ensures { OnOk result (text.new.items ≡ text.old.items ++ further_line count) }
 {
@@ -166,8 +168,8 @@ fn push_further(alloc: Global, text: &mut Vec<u8>, count: usize) -> Result<(), O
     push(text, b" more\n")
 }
 
-/// Adds a heading and the lines of those of these tasks that failed themselves in these runs, at most 20, those with
-/// the most such runs first; nothing where there are none.
+/// Adds a heading and a line for each of these tasks that failed in these runs, for at most 20, those with the most
+/// such runs first, and how many more there are. Adds nothing where none failed.
 pub(crate) fn push_failing(
     alloc: Global,
     text: &mut Vec<u8>,

@@ -16,7 +16,7 @@ use bf_report::{Report, RunReport};
 use bf_value::OutOfMemory;
 use std::alloc::Global;
 
-/// The runs and tasks that a grid shows, of a graph.
+/// A graph, and the runs of its report and the tasks that a grid shows.
 #[derive(Clone, Copy)]
 struct ShownParts<'a> {
     dag: &'a Dag,
@@ -25,7 +25,7 @@ struct ShownParts<'a> {
 }
 
 impl ShownParts<'_> {
-    /// Adds the table of marks, with `each` runs a column, and below it the tasks that failed. `each` isn't 0.
+    /// Adds the table of marks, with `each` runs to a column, at least 1, and below it the tasks that failed.
     fn push_table_by(
         self,
         alloc: Global,
@@ -58,8 +58,8 @@ impl ShownParts<'_> {
         push_failing(alloc, text, self.dag, self.runs, self.tasks)
     }
 
-    /// Adds the table of marks and the tasks that failed, with as few runs a column as the view's width takes. There
-    /// are runs.
+    /// Adds the table of marks, with as few runs to a column as fit into the view's width, and below it the tasks that
+    /// failed. At least one run is shown.
     fn push_table(self, alloc: Global, text: &mut Vec<u8>, view: &View) -> Result<(), OutOfMemory>
         requires { 0 < length self.runs.now }
         ensures { OnOk result (text.new.items ≡ text.old.items
@@ -82,7 +82,7 @@ impl ShownParts<'_> {
         self.push_table_by(alloc, text, view, layout, each)
     }
 
-    /// Adds the table of marks and the tasks that failed; nothing where no run is shown.
+    /// Adds the table of marks and below it the tasks that failed; adds nothing where no run is shown.
     fn push_table_if_runs(
         self,
         alloc: Global,
@@ -100,8 +100,8 @@ impl ShownParts<'_> {
     }
 }
 
-/// Adds what is below the first line of a grid: how much the view leaves out, the table of marks, and the tasks that
-/// failed. `all` are the runs of the report.
+/// Adds what stands below the first line of a grid: how many runs and tasks are shown where not all are, the table of
+/// marks, and the tasks that failed. `all` are the runs of the report.
 fn push_body(
     alloc: Global,
     text: &mut Vec<u8>,
@@ -132,7 +132,7 @@ fn push_body(
     shows.push_table_if_runs(alloc, text, view)
 }
 
-/// Adds what is below the first line of a grid; nothing where `all`, the runs of the report, are none.
+/// Adds what stands below the first line of a grid; adds nothing where `all`, the runs of the report, is empty.
 fn push_body_if_runs(
     alloc: Global,
     text: &mut Vec<u8>,
@@ -149,8 +149,8 @@ fn push_body_if_runs(
     push_body(alloc, text, view, dag, all)
 }
 
-/// The text of a grid of a report beside its graph, as the view shows it; only its first line where the report has no
-/// runs.
+/// The text of a grid, which shows a report of this graph as the view asks for it; just the first line where the report
+/// has no runs.
 fn text_of_grid(
     alloc: Global,
     view: &View,
@@ -167,9 +167,9 @@ fn text_of_grid(
     Ok(text)
 }
 
-/// Writes a report as a grid of characters, a column for each run or for several and a row for each task. The whole
-/// text is made first, so want of memory is known before the first byte goes out. It gives up where a write fails or
-/// takes nothing, and at the 1,001st interruption.
+/// Writes a report of this graph as a grid of characters: a row for each task, a column for each run or several. `Err`
+/// tells how many bytes went out: none where memory ran out, since the whole text is made first; else those before a
+/// write failed or took nothing, or before the 1,001st interruption.
 pub fn write_grid<W: Write>(
     alloc: Global,
     view: &View,

@@ -18,7 +18,7 @@ use jiff::Timestamp;
 use std::alloc::Global;
 
 impl Columns<'_> {
-    /// Where the first run of the column at `place` starts, from 0; at the Unix epoch where there is no such column.
+    /// The start of the first run in the column at `place`, from 0; 1970-01-01 where the column has no run.
     fn start(self, place: usize) -> Moment
         requires { place < self.count }
         ensures { result.at.nanosecond ≡ start_or
@@ -30,7 +30,7 @@ impl Columns<'_> {
         }
     }
 
-    /// Where the first run of each column starts, in order.
+    /// The start of the first run in each column, in order.
     fn starts(self, alloc: Global) -> Result<Vec<Moment>, OutOfMemory>
         ensures { IfOk result (λ starts. map (λ start. start.at.nanosecond) starts.items
             ≡ column_starts self.entry.count self.entry.each
@@ -45,7 +45,7 @@ impl Columns<'_> {
 }
 
 impl Layout {
-    /// The beginning of a line of labels: spaces up to the first column.
+    /// The spaces at the beginning of a line of labels, as wide as the column of names and the two spaces after it.
     fn margin(self, alloc: Global) -> Result<Vec<u8>, OutOfMemory>
         ensures { IfOk result (λ line. line.items ≡ margin self.names) }
     {
@@ -54,8 +54,8 @@ impl Layout {
         Ok(line)
     }
 
-    /// Adds the three lines above the rows: the labels of the columns, which start at these moments, and the heads of
-    /// the sums.
+    /// Adds the three lines above the rows: the labels of groups of columns, the two digits of each column, one above
+    /// the other, and the letters of the sums. `starts` are the starts of the columns.
     fn push_labels(
         self,
         alloc: Global,
@@ -81,7 +81,7 @@ impl Layout {
     }
 }
 
-/// What a table is made of.
+/// What a table shows: the marks of these tasks of a graph, by columns of runs, and how they are laid out.
 #[derive(Clone, Copy)]
 pub(crate) struct Table<'a> {
     pub(crate) dag: &'a Dag,
@@ -91,7 +91,7 @@ pub(crate) struct Table<'a> {
 }
 
 impl Table<'_> {
-    /// Adds the row of a task, with its line feed: its id, its marks and its sums.
+    /// Adds the row of task number `task`, with its line feed: its id, its mark in each column and its sums.
     fn push_task(self, alloc: Global, text: &mut Vec<u8>, task: u32) -> Result<(), OutOfMemory>
         ensures { OnOk result (text.new.items ≡ text.old.items
             ++ row_in self.entry task) }
@@ -103,7 +103,7 @@ impl Table<'_> {
             .push_row(alloc, text, name, marks.as_slice(), tally)
     }
 
-    /// Adds the rows of all tasks that are shown.
+    /// Adds the rows of the tasks that the table shows, in order.
     fn push_tasks(self, alloc: Global, text: &mut Vec<u8>) -> Result<(), OutOfMemory>
         ensures { OnOk result (text.new.items ≡ text.old.items
             ++ flat_map (row_in self.entry) self.entry.tasks.now) }
@@ -114,7 +114,7 @@ impl Table<'_> {
         Ok(())
     }
 
-    /// Adds the table: its labels, the row of the runs' states, the rows of the tasks, and the legend.
+    /// Adds the table: its labels, the row of the runs' states, the rows of the tasks, an empty line and the legend.
     pub(crate) fn push(self, alloc: Global, text: &mut Vec<u8>) -> Result<(), OutOfMemory>
         ensures { OnOk result (text.new.items ≡ text.old.items
             ++ text_in self.entry) }

@@ -8,7 +8,7 @@ use bf_report::RunReport;
 use bf_value::OutOfMemory;
 use std::alloc::Global;
 
-/// The marks, as the legend has them.
+/// All marks, in the order of the legend.
 const MARKS: [Mark; 6] = [
     Mark::Success,
     Mark::Retried,
@@ -18,7 +18,7 @@ const MARKS: [Mark; 6] = [
     Mark::NoStatus,
 ];
 
-/// What a mark stands for, as a word.
+/// The word that the legend has for a mark.
 fn meaning_of(mark: Mark) -> &'static str
     ensures { result.now ≡ meaning mark }
 {
@@ -32,7 +32,7 @@ fn meaning_of(mark: Mark) -> &'static str
     }
 }
 
-/// Whether a task has this mark in one of these runs.
+/// Whether task number `task` has this mark in one of these runs.
 fn has_mark(alloc: Global, runs: &[&RunReport], mark: Mark, task: u32) -> Result<bool, OutOfMemory>
     ensures { IfOk result (λ has_it. has_it
         ≡ has_mark_in (map (λ run. run.now) runs.now) mark task) }
@@ -63,7 +63,7 @@ fn is_seen(
     Ok(false)
 }
 
-/// Those of these marks, in their order, that one of these tasks has in one of these runs.
+/// The marks, among these and in their order, that one of these tasks has in one of these runs.
 fn seen_among(
     alloc: Global,
     runs: &[&RunReport],
@@ -82,7 +82,7 @@ fn seen_among(
     Ok(found)
 }
 
-/// Adds a mark's letter, in its colour where `colored`, and what it stands for, as `F failed`.
+/// Adds a mark's letter, coloured where `colored`, and the word for it, such as `F failed`.
 fn push_meaning(text: &mut Vec<u8>, colored: bool, mark: Mark) -> Result<(), OutOfMemory>
     ensures { OnOk result (text.new.items ≡ text.old.items ++ explained colored mark) }
 {
@@ -91,7 +91,7 @@ fn push_meaning(text: &mut Vec<u8>, colored: bool, mark: Mark) -> Result<(), Out
     push(text, meaning_of(mark).as_bytes())
 }
 
-/// Adds the letter of each mark, in its colour where `colored`, and what it stands for, two spaces apart.
+/// Adds the letter of each mark, coloured where `colored`, and the word for it, with two spaces between marks.
 fn push_meanings(text: &mut Vec<u8>, colored: bool, marks: &[Mark]) -> Result<(), OutOfMemory>
     ensures { OnOk result (text.new.items ≡ text.old.items ++ legend colored marks.now) }
 {
@@ -104,7 +104,8 @@ fn push_meanings(text: &mut Vec<u8>, colored: bool, marks: &[Mark]) -> Result<()
     Ok(())
 }
 
-/// Adds the line, with its line feed, on what the marks stand for that these tasks have in these runs.
+/// Adds the legend, with its line feed: the letter of each mark that one of these tasks has in one of these runs,
+/// coloured where `colored`, and the word for it.
 pub(crate) fn push_legend(
     alloc: Global,
     text: &mut Vec<u8>,

@@ -9,7 +9,7 @@ use bf_value::OutOfMemory;
 use bf_xcom::RunState;
 use std::alloc::Global;
 
-/// A line without the spaces at its end.
+/// The line without the spaces at its end.
 fn trimmed(line: &[u8]) -> &[u8]
     ensures { result.now ≡ trimmed_of line.now }
 {
@@ -20,7 +20,7 @@ fn trimmed(line: &[u8]) -> &[u8]
     &line[..end]
 }
 
-/// Adds a line without the spaces at its end, and a line feed.
+/// Adds `shown` without the spaces at its end, and a line feed.
 pub(crate) fn push_line(text: &mut Vec<u8>, shown: &[u8]) -> Result<(), OutOfMemory>
     ensures { OnOk result (text.new.items ≡ text.old.items ++ line shown.now) }
 {
@@ -28,7 +28,7 @@ pub(crate) fn push_line(text: &mut Vec<u8>, shown: &[u8]) -> Result<(), OutOfMem
     push(text, b"\n")
 }
 
-/// The mark of the state of a run.
+/// The mark for the state of a run.
 fn state_mark(state: RunState) -> Mark
     ensures { result ≡ state_mark_of state }
 {
@@ -38,7 +38,7 @@ fn state_mark(state: RunState) -> Mark
     }
 }
 
-/// The mark of the worst state of these runs, which are of a column; skipped where there are none.
+/// The mark for the worst state of these runs, those of one column; `Skipped` where there are none.
 fn worst_state_mark(runs: &[&RunReport]) -> Mark
     ensures { result ≡ column_state (map (λ run. run.now) runs.now) }
 {
@@ -49,7 +49,7 @@ fn worst_state_mark(runs: &[&RunReport]) -> Mark
     worst
 }
 
-/// The runs that are shown, `each` a column, in `count` columns; the last may have fewer.
+/// The runs that a grid shows, in `count` columns of `each` runs; the last column may have fewer.
 #[derive(Clone, Copy)]
 pub(crate) struct Columns<'a> {
     pub(crate) runs: &'a [&'a RunReport],
@@ -70,7 +70,7 @@ impl<'a> Columns<'a> {
         &self.runs[first..last]
     }
 
-    /// The worst mark of a task in each column, in order.
+    /// The worst mark of task number `task` in each column, in order.
     pub(crate) fn marks(self, alloc: Global, task: u32) -> Result<Vec<Mark>, OutOfMemory>
         ensures { IfOk result (λ marks. marks.items ≡ by_column self.entry.count self.entry.each
             (column_mark task) (map (λ run. run.now) self.entry.runs.now)) }
@@ -82,7 +82,7 @@ impl<'a> Columns<'a> {
         Ok(marks)
     }
 
-    /// The mark of the worst run state in each column, in order.
+    /// The mark for the worst state of a run in each column, in order.
     pub(crate) fn states(self, alloc: Global) -> Result<Vec<Mark>, OutOfMemory>
         ensures { IfOk result (λ marks. marks.items ≡ by_column self.entry.count self.entry.each
             column_state (map (λ run. run.now) self.entry.runs.now)) }
@@ -95,7 +95,8 @@ impl<'a> Columns<'a> {
     }
 }
 
-/// How wide names and sums are, and whether marks have colours.
+/// How a grid is laid out: how many bytes wide names are, how wide the sums of each state, and whether marks are
+/// coloured.
 #[derive(Clone, Copy)]
 pub(crate) struct Layout {
     pub(crate) names: usize,
@@ -106,7 +107,8 @@ pub(crate) struct Layout {
 }
 
 impl Layout {
-    /// Adds a row of the table, with its line feed: a name, cut to its column, its marks and the sums of its tally.
+    /// Adds a row of the table, with its line feed: `name`, cut to its column, a character for each mark, and the sums
+    /// of `tally`.
     pub(crate) fn push_row(
         self,
         alloc: Global,

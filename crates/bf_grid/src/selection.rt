@@ -24,7 +24,7 @@ fn is_shown_run(alloc: Global, view: &View, run: &RunReport) -> Result<bool, Out
     Ok(run_tally(alloc, run)?.is_bad())
 }
 
-/// Those of these runs that the view shows, in their order.
+/// The runs, among these and in their order, that the view shows.
 pub(crate) fn shown_runs<'a>(
     alloc: Global,
     view: &View,
@@ -42,8 +42,8 @@ pub(crate) fn shown_runs<'a>(
     Ok(found)
 }
 
-/// Whether the view shows a task beside these runs: any, or where only failures are shown one that in some of them
-/// failed, is upstream_failed or has no status.
+/// Whether the view shows a task beside these runs: any task or, where only failures are shown, one that failed, is
+/// upstream_failed or has no status in one of them.
 fn is_shown_task(
     alloc: Global,
     view: &View,
@@ -59,7 +59,7 @@ fn is_shown_task(
     Ok(tally_in(alloc, runs, task)?.is_bad())
 }
 
-/// Those of these tasks that the view shows beside these runs, in their order.
+/// The tasks, among these and in their order, that the view shows beside these runs.
 pub(crate) fn shown_tasks(
     alloc: Global,
     view: &View,
@@ -78,7 +78,7 @@ pub(crate) fn shown_tasks(
     Ok(found)
 }
 
-/// The tally of all these tasks in these runs.
+/// The tally of all these tasks over all these runs.
 pub(crate) fn total_in(
     alloc: Global,
     runs: &[&RunReport],
@@ -93,7 +93,7 @@ pub(crate) fn total_in(
     Ok(total)
 }
 
-/// The id of a task; empty where there is no such task.
+/// The id of task number `task`; empty where the graph has no such task.
 pub(crate) fn id_of(dag: &Dag, task: u32) -> &str
     ensures { result.now ≡ (task_of dag.now task).id }
 {
@@ -103,7 +103,7 @@ pub(crate) fn id_of(dag: &Dag, task: u32) -> &str
     }
 }
 
-/// How many bytes the longest id of these tasks has; at least 3.
+/// The length in bytes of the longest id of these tasks, but at least 3, that of the label `run`.
 fn longest_id_length(dag: &Dag, tasks: &[u32]) -> usize
     ensures longest { result ≡ longest_id_length_of (names_of dag.now tasks.now) }
     ensures some { 3 ≤ result }
@@ -115,8 +115,8 @@ fn longest_id_length(dag: &Dag, tasks: &[u32]) -> usize
     longest
 }
 
-/// How many bytes wide the column of names is: as the longest id, but at most a third of the grid's width, or 12
-/// where that is more.
+/// How many bytes wide the column of names is: as wide as the longest id, but at most a third of `width`, the grid's
+/// own, or 12 where that is more.
 pub(crate) fn name_width(dag: &Dag, tasks: &[u32], width: usize) -> usize
     ensures width { result ≡ name_width_of width (names_of dag.now tasks.now) }
     ensures some { 2 ≤ result }

@@ -9,7 +9,8 @@ use bf_report::RunReport;
 use bf_value::OutOfMemory;
 use std::alloc::Global;
 
-/// Adds the starts of the first and the last of these runs, two spaces before them; nothing where there are no runs.
+/// Adds two spaces and when the first and the last of these runs start, such as `2024-03-04 to 2024-03-06`; adds
+/// nothing where there are no runs.
 fn push_dates(text: &mut Vec<u8>, runs: &[RunReport]) -> Result<(), OutOfMemory>
     ensures { OnOk result (text.new.items ≡ text.old.items ++ dates runs.now) }
 {
@@ -22,8 +23,8 @@ fn push_dates(text: &mut Vec<u8>, runs: &[RunReport]) -> Result<(), OutOfMemory>
     push_moment(text, last.interval.start)
 }
 
-/// Adds the first line, with its line feed: the dag id, the first and the last start, how many runs there are, and
-/// how many failed.
+/// Adds the first line of a grid, with its line feed: the dag id, bold where `colored`, when the first and the last run
+/// start, how many runs there are and how many of them failed.
 pub(crate) fn push_head(
     alloc: Global,
     text: &mut Vec<u8>,
@@ -43,14 +44,14 @@ pub(crate) fn push_head(
     push(text, b" failed\n")
 }
 
-/// How many there are, and how many of them are shown.
+/// How many runs or tasks there are in all, and how many of them a grid shows.
 #[derive(Clone, Copy)]
 pub(crate) struct Shown {
     pub(crate) shown: usize,
     pub(crate) all: usize,
 }
 
-/// Adds how many are shown of how many, as `2 of 5 runs` for the noun `run`.
+/// Adds how many of all are shown, such as `2 of 5 runs` where the noun is `run`.
 fn push_shown_count(
     alloc: Global,
     text: &mut Vec<u8>,
@@ -65,7 +66,7 @@ fn push_shown_count(
     push_counted_noun(alloc, text, shown.all as u64, noun)
 }
 
-/// Adds the line, with its line feed, as `shown: 2 of 5 runs, 3 of 7 tasks`.
+/// Adds the line on how many runs and tasks are shown, with its line feed, such as `shown: 2 of 5 runs, 3 of 7 tasks`.
 fn push_shown_line(
     alloc: Global,
     text: &mut Vec<u8>,
@@ -82,7 +83,7 @@ fn push_shown_line(
     push(text, b"\n")
 }
 
-/// Adds the line on how many runs and tasks are shown; nothing where all are.
+/// Adds the line on how many runs and tasks are shown; adds nothing where all are.
 pub(crate) fn push_left_out(
     alloc: Global,
     text: &mut Vec<u8>,
@@ -98,7 +99,7 @@ pub(crate) fn push_left_out(
     push_shown_line(alloc, text, runs, tasks)
 }
 
-/// Adds the line, with its line feed, that a column is `each` runs and shows the worst of them.
+/// Adds the line, with its line feed, that a column stands for `each` runs and shows the worst of them.
 fn push_runs_a_column_line(
     alloc: Global,
     text: &mut Vec<u8>,
@@ -112,7 +113,7 @@ fn push_runs_a_column_line(
     push(text, b" runs, and shows the worst of them\n")
 }
 
-/// Adds the line that a column is `each` runs; nothing where it is one.
+/// Adds the line that a column stands for `each` runs; adds nothing where that is 1 or 0.
 pub(crate) fn push_runs_a_column(
     alloc: Global,
     text: &mut Vec<u8>,

@@ -21,9 +21,8 @@ use bf_value::Text;
 use bf_zone::MOST_FILE_BYTES;
 use std::alloc::Global;
 
-/// The fault that a command tells where the file at a path can't be read; want of memory stays that, without the
-/// path.
-fn fault_at(path: String, fault: SourceFault) -> CommandFault
+/// Gives the command's fault where the file at `path` can't be read; want of memory stays that, without the path.
+fn reading_fault(path: String, fault: SourceFault) -> CommandFault
     ensures { result ≡ of_source (string_bytes path) fault }
 {
     match fault {
@@ -32,8 +31,8 @@ fn fault_at(path: String, fault: SourceFault) -> CommandFault
     }
 }
 
-/// Reads the first `longest` + 1 bytes of a file, so that its reader sees where it is too long; `CannotRead` where it
-/// can't be read.
+/// Reads a file, but at most `longest` + 1 bytes, by which its reader sees that it is too long. `Err` where it can't be
+/// read, with its path, or at want of memory.
 fn read_bytes_up_to<S: Source>(
     alloc: Global,
     path: String,
@@ -49,12 +48,12 @@ fn read_bytes_up_to<S: Source>(
 {
     match read_first_bytes(alloc, path.as_str(), longest + 1, files) {
         Ok(bytes) => Ok(bytes),
-        Err(fault) => Err(fault_at(path, fault)),
+        Err(fault) => Err(reading_fault(path, fault)),
     }
 }
 
-/// Reads a graph file: at most one byte more than it may have, by which its reader sees that it is too long.
-/// `CannotRead` where it can't be read.
+/// Reads a graph file, but at most one byte more than a graph may have, by which its reader sees that it is too long.
+/// `Err` where it can't be read, or at want of memory.
 fn read_graph_bytes<S: Source>(
     alloc: Global,
     path: String,
@@ -73,8 +72,8 @@ fn read_graph_bytes<S: Source>(
     read_bytes_up_to(alloc, path, MOST_BYTES, files)
 }
 
-/// Reads a table file: at most one byte more than it may have, by which its reader sees that it is too long.
-/// `CannotRead` where it can't be read.
+/// Reads a table file, but at most one byte more than a table may have, by which its reader sees that it is too long.
+/// `Err` where it can't be read, or at want of memory.
 fn read_table_bytes<S: Source>(
     alloc: Global,
     path: String,
@@ -90,8 +89,8 @@ fn read_table_bytes<S: Source>(
     read_bytes_up_to(alloc, path, LONGEST_TABLE, files)
 }
 
-/// Reads a zone file: at most one byte more than it may have, by which its reader sees that it is too long. None
-/// where none is named; `CannotRead` where it can't be read.
+/// Reads a zone file, but at most one byte more than it may have, by which its reader sees that it is too long; None
+/// where none is named. `Err` where it can't be read, or at want of memory.
 fn read_zone_bytes<S: Source>(
     alloc: Global,
     path: Option<String>,
@@ -115,8 +114,8 @@ fn read_zone_bytes<S: Source>(
     }
 }
 
-/// Reads a table file: at most one byte more than it may have, by which its reader sees that it is too long. None
-/// where none is named; `CannotRead` where it can't be read.
+/// Reads a table file, but at most one byte more than a table may have, by which its reader sees that it is too long;
+/// None where none is named. `Err` where it can't be read, or at want of memory.
 pub fn read_named_table<S: Source>(
     alloc: Global,
     path: Option<String>,
@@ -140,8 +139,8 @@ pub fn read_named_table<S: Source>(
     }
 }
 
-/// Reads a seeds file: at most one byte more than it may have, by which its reader sees that it is too long.
-/// `CannotRead` where it can't be read.
+/// Reads a seeds file, but at most one byte more than its 8,388,608, by which its reader sees that it is too long.
+/// `Err` where it can't be read, or at want of memory.
 pub fn read_seeds_bytes<S: Source>(
     alloc: Global,
     path: String,
@@ -156,7 +155,7 @@ pub fn read_seeds_bytes<S: Source>(
     read_bytes_up_to(alloc, path, LONGEST_FILE, files)
 }
 
-/// Reads a file to its end, however many bytes it has; `CannotRead` where it can't be read.
+/// Reads a file to its end, however long it is. `Err` where it can't be read, or at want of memory.
 fn read_whole_file<S: Source>(
     alloc: Global,
     path: String,
@@ -172,7 +171,7 @@ fn read_whole_file<S: Source>(
     read_bytes_up_to(alloc, path, isize::MAX as usize, files)
 }
 
-/// Reads a journal to its end; None where none is named, `CannotRead` where it can't be read.
+/// Reads a journal to its end; None where none is named. `Err` where it can't be read, or at want of memory.
 pub fn read_named_journal<S: Source>(
     alloc: Global,
     path: Option<String>,
@@ -196,8 +195,8 @@ pub fn read_named_journal<S: Source>(
     }
 }
 
-/// Reads a report file and gives the report. It is checked as it is read, and read no further than its first fault;
-/// `CannotRead` where it can't be opened or read.
+/// Reads a report file, and no further than its first fault. `Err` where it can't be opened or read, isn't a report, or
+/// memory runs out.
 pub fn read_report_file<S: Source>(
     alloc: Global,
     path: String,
@@ -214,7 +213,7 @@ pub fn read_report_file<S: Source>(
 {
     let mut device = match files.open(path.as_str()) {
         Ok(device) => device,
-        Err(fault) => return Err(fault_at(path, fault)),
+        Err(fault) => return Err(reading_fault(path, fault)),
     };
     match read_report(alloc, &mut device) {
         Ok(report) => Ok(report),
@@ -223,7 +222,7 @@ pub fn read_report_file<S: Source>(
     }
 }
 
-/// The bytes of a graph file, and those of a zone file where one was named.
+/// The bytes of a graph file, and those of its zone file where one was named.
 #[derive(Drop)]
 pub struct GraphFiles {
     pub graph: Vec<u8>,
@@ -239,7 +238,8 @@ impl GraphFiles {
     }
 }
 
-/// Reads the graph file, and then the zone file where one is named; a fault for the first that can't be read.
+/// Reads the graph file, and then the zone file where one is named, without checking them. `Err` for the first that
+/// can't be read, or at want of memory.
 pub fn read_graph_files<S: Source>(
     alloc: Global,
     asked: GraphAsked,
@@ -258,15 +258,15 @@ pub fn read_graph_files<S: Source>(
     Ok(GraphFiles { graph, zone_file })
 }
 
-/// The files of a backfill over a table.
+/// The bytes of the files of a backfill whose tries a table answers.
 #[derive(Drop)]
 pub struct FilesWithTable {
     pub graph: GraphFiles,
     pub table: Vec<u8>,
 }
 
-/// Reads the graph file, the zone file where one is named, and then the table file at the path `table`; a fault for
-/// the first that can't be read.
+/// Reads the graph file, the zone file where one is named, and then the table file, without checking them. `Err` for
+/// the first that can't be read, or at want of memory.
 pub fn read_files_with_table<S: Source>(
     alloc: Global,
     asked: GraphAsked,

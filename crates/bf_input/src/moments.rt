@@ -6,7 +6,7 @@ use bf_command_fault::CommandFault;
 use bf_moment::moment_in;
 use jiff::Timestamp;
 
-/// The moment in UTC that a text of the command line says, as 2024-01-31 or 2024-01-31T06:00:00Z; `BadMoment` for any
+/// Reads a moment in UTC, such as `2024-01-31T06:00:00Z`, or `2024-01-31` for its midnight. `Err(BadMoment)` for any
 /// other text.
 pub fn moment_of(text: &str) -> Result<Timestamp, CommandFault>
     ensures means { IfOk result (Means text.now) }

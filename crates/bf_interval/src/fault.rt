@@ -7,7 +7,7 @@ use std::alloc::{AllocError, AllocFailed};
 use std::error::Error;
 use std::fmt;
 
-/// Why the data intervals of a range aren't listed.
+/// Why the data intervals of a range can't be listed.
 #[derive(Clone, Copy, Debug, PartialEq, Eq)]
 pub enum IntervalFault {
     /// A moment lies outside the years 1970 to 2199.
@@ -20,7 +20,7 @@ pub enum IntervalFault {
 }
 
 impl IntervalFault {
-    /// The number of the refusal (docs/FORMATS.md), 25 to 27; None for want of memory.
+    /// Gives the number of the refusal in docs/FORMATS.md, 25 to 27; None for `OutOfMemory`, which refuses no range.
     pub fn refusal_number(self) -> Option<u32>
         ensures { result ≡ refusal_number_of self }
     {
@@ -39,6 +39,7 @@ impl fmt::Display for IntervalFault {
 
     ghost output = { λ fault. Some (fault_text fault) };
 
+    /// Writes the fault in words, such as `range reversed`.
     fn fmt<W: fmt::Write>(&self, f: &mut fmt::Formatter<W>) -> fmt::Result {
         match self {
             IntervalFault::OutsideYears => write!(f, "outside years"),
@@ -54,6 +55,7 @@ impl Error for IntervalFault {}
 impl From<AllocError> for IntervalFault {
     ghost from_gives = { λ _ e. e ≡ OutOfMemory };
 
+    /// Gives `OutOfMemory`.
     fn from(_e: AllocError) -> IntervalFault {
         IntervalFault::OutOfMemory
     }
@@ -62,6 +64,7 @@ impl From<AllocError> for IntervalFault {
 impl<T: Drop> From<AllocFailed<T>> for IntervalFault {
     ghost from_gives = { λ _ e. e ≡ OutOfMemory };
 
+    /// Gives `OutOfMemory`.
     fn from(_e: AllocFailed<T>) -> IntervalFault {
         IntervalFault::OutOfMemory
     }

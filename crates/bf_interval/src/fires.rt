@@ -17,13 +17,13 @@ use std::alloc::{AllocError, Global};
 /// A day, in seconds.
 const DAY: u64 = 86_400;
 
-/// 1969-12-30 begins two days before 1970.
+/// How many days before 1970-01-01 the search begins, at 1969-12-30.
 const DAYS_BEFORE_1970: u64 = 2;
 
-/// No clock is further from UTC than 25:59:59, the greatest offset that `jiff` has.
+/// The furthest that a clock is from UTC, in seconds: 25:59:59, the greatest offset that `jiff` has.
 const GREATEST_OFFSET: u64 = 93_599;
 
-/// The civil time `minute` minutes after 1969-12-30T00:00.
+/// Gives the civil time `minute` minutes after 1969-12-30T00:00.
 fn civil_minute(minute: u64) -> DateTime
     requires { minute < minutes }
     ensures { IsMinute minute result }
@@ -31,7 +31,7 @@ fn civil_minute(minute: u64) -> DateTime
     minute_of(date_of(minute / 1_440), (minute % 1_440) as u16)
 }
 
-/// The second since 1970 to which the zone puts a civil minute; None where that is before 1970.
+/// Gives the second since 1970 to which the zone puts a civil minute; None where that is before 1970.
 fn second_of_civil_minute(zone: &TimeZone<'_>, at: DateTime) -> Option<u64>
     requires { IsCivilMinute at }
     ensures { MatchOption result (picked_instant (plain_zone zone.now) at <ℤ pos 0)
@@ -48,8 +48,8 @@ fn second_of_civil_minute(zone: &TimeZone<'_>, at: DateTime) -> Option<u64>
     }
 }
 
-/// Adds to `found` the fire of the civil time `minute` minutes after 1969-12-30T00:00, where the schedule has that
-/// time and the zone puts it at the second `from` since 1970, or later.
+/// Adds to `found`, in order, the fire of the civil time `minute` minutes after 1969-12-30T00:00. Adds nothing where
+/// the schedule doesn't have that time, or the zone puts it before the second `from` since 1970.
 fn push_fire_of_minute(
     found: &mut Vec<u64>,
     spec: &CronSpec,
@@ -78,8 +78,8 @@ fn push_fire_of_minute(
     }
 }
 
-/// Adds to `found` the fires of the civil hour `hour` hours after 1969-12-30T00, those before the second `from` left
-/// out.
+/// Adds to `found`, in order, the fires of the civil hour `hour` hours after 1969-12-30T00:00, without those before the
+/// second `from` since 1970.
 fn push_fires_of_hour(
     found: &mut Vec<u64>,
     spec: &CronSpec,
@@ -100,7 +100,8 @@ fn push_fires_of_hour(
     Ok(())
 }
 
-/// Adds to `found` the fires of the date `day` days after 1969-12-30, those before the second `from` left out.
+/// Adds to `found`, in order, the fires of the date `day` days after 1969-12-30, without those before the second `from`
+/// since 1970.
 fn push_fires_of_day(
     found: &mut Vec<u64>,
     spec: &CronSpec,
@@ -123,9 +124,8 @@ fn push_fires_of_day(
     Ok(())
 }
 
-/// How many of the fires `found` on the dates before `day` come before all that later dates can give, where these
-/// suffice: the last of them lies after the second `to`, or they are two more than `MOST_RUNS`. None where they
-/// don't.
+/// Counts the first of the fires `found`, those on dates before `day`, that suffice: up to the first after the second
+/// `to`, or `MOST_RUNS` + 2. None where they don't suffice, or a later date might still give an earlier fire.
 fn settled_fire_count(found: &[u64], to: u64, day: u64) -> Option<usize>
     requires rising { IsStrictlyIncreasing found.now }
     requires day { day < 87_295 }
@@ -140,8 +140,8 @@ fn settled_fire_count(found: &[u64], to: u64, day: u64) -> Option<usize>
     None
 }
 
-/// The first fires, in seconds since 1970, that aren't before `from`: up to one after `to`, or up to two more than
-/// `MOST_RUNS`, or all where there are fewer.
+/// Finds the first fires from the second `from` on, in seconds since 1970 and in order: up to the first after `to`, or
+/// two more than `MOST_RUNS`, or all where there are fewer.
 pub fn first_fires(
     alloc: Global,
     spec: &CronSpec,

@@ -16,13 +16,13 @@ use jiff::Timestamp;
 use jiff::tz::TimeZone;
 use std::alloc::Global;
 
-/// The greatest number of runs of a backfill (our own choice).
+/// The most runs that a backfill may have (this program's own choice).
 pub const MOST_RUNS: usize = 4_096;
 
 /// A second, in nanoseconds.
 const SECOND: u64 = 1_000_000_000;
 
-/// The first whole second since 1970 that isn't before the moment.
+/// Gives the first whole second since 1970 that isn't before the moment.
 fn second_rounded_up(moment: Timestamp) -> u64
     requires { IsInYears moment.nanosecond }
     ensures rounded { (k : ℕ) → (result ≤ k) ↔ (moment.nanosecond ≤ℤ seconds k) }
@@ -31,7 +31,7 @@ fn second_rounded_up(moment: Timestamp) -> u64
     (moment.as_nanosecond() as u64).div_ceil(SECOND)
 }
 
-/// The last whole second since 1970 that isn't after the moment.
+/// Gives the last whole second since 1970 that isn't after the moment.
 fn second_rounded_down(moment: Timestamp) -> u64
     requires { IsInYears moment.nanosecond }
     ensures { (k : ℕ) → (k ≤ result) ↔ (seconds k ≤ℤ moment.nanosecond) }
@@ -39,7 +39,7 @@ fn second_rounded_down(moment: Timestamp) -> u64
     moment.as_nanosecond() as u64 / SECOND
 }
 
-/// The moment so many seconds after 1970-01-01T00:00Z.
+/// Gives the moment at this second since 1970-01-01T00:00:00Z.
 fn moment_of_second(second: u64) -> Timestamp
     requires { second ≤ 253_402_207_200 }
     ensures { result.nanosecond ≡ seconds second }
@@ -50,8 +50,8 @@ fn moment_of_second(second: u64) -> Timestamp
     moment
 }
 
-/// A data interval from each of `fires`, in seconds since 1970, to the next, of those that start by the second `to`,
-/// included; none of fewer than two fires, `TooManyRuns` of more than `MOST_RUNS` data intervals.
+/// Makes a data interval from each fire, in seconds since 1970, to the next, where it starts by the second `to`; none
+/// of fewer than two fires. `TooManyRuns` where there would be more than `MOST_RUNS`, `OutOfMemory` at want of memory.
 fn intervals_between_fires(
     alloc: Global,
     fires: &[u64],
@@ -81,12 +81,10 @@ fn intervals_between_fires(
     Ok(found)
 }
 
-/// The data intervals whose start isn't before `from` nor after `to`, in order; none where the schedule never fires.
-/// A fault comes, in this order, for a moment outside the years 1970 to 2199, `from` after `to`, and more than
-/// `MOST_RUNS` data intervals.
-///
-/// Source: Airflow's "Data Interval" and crontab(5). What becomes of minutes that the clock jumps over or shows twice
-/// is our own choice, and so is the greatest number.
+/// Lists the data intervals (Airflow's "Data Interval", crontab(5)) that start from `from` to `to`, both included, in
+/// order; none where the schedule never fires. Err, in this order: `OutsideYears` for a moment outside the years 1970
+/// to 2199, `RangeReversed` for `from` after `to`, `TooManyRuns` for more than `MOST_RUNS`. `OutOfMemory` comes at want
+/// of memory.
 pub fn intervals(
     alloc: Global,
     spec: &CronSpec,

@@ -5,7 +5,8 @@ ghost use Rattle.bf_interval.specs.Search.{Adds};
 
 use std::alloc::AllocError;
 
-/// Inserts a number among rising ones, in order; where it is already one of them, nothing changes.
+/// Inserts a number among rising ones, in order; does nothing where it is one of them already. At an Err they stay as
+/// they were.
 pub fn insert_in_order(numbers: &mut Vec<u64>, number: u64) -> Result<(), AllocError>
     requires { IsStrictlyIncreasing numbers.old.items }
     ensures rising { IsStrictlyIncreasing numbers.new.items }
@@ -21,7 +22,7 @@ pub fn insert_in_order(numbers: &mut Vec<u64>, number: u64) -> Result<(), AllocE
     }
 }
 
-/// The index of the first of rising numbers above `limit`, which is the length where there is none.
+/// Gives the index of the first of these rising numbers above `limit`; their count where there is none.
 pub fn place_above(numbers: &[u64], limit: u64) -> usize
     requires { IsStrictlyIncreasing numbers.now }
     ensures within { result ≤ length numbers.now }

@@ -17,8 +17,7 @@ use jiff::tz::TimeZone;
 use std::alloc::Global;
 use std::marker::Model;
 
-/// The data intervals of the runs of a backfill, in order of date: at most `MOST_RUNS`, whose moments are whole
-/// seconds up to 2208-12-31T23:59:59Z.
+/// The data intervals of a backfill's runs, by date: at most `MOST_RUNS`, in whole seconds, up to 2208-12-31T23:59:59Z.
 #[derive(Drop)]
 pub struct Runs {
     intervals: Vec<Interval>,
@@ -41,8 +40,8 @@ impl Model for Runs {
 }
 
 impl Runs {
-    /// A run for each data interval that starts from `from` to `to`, both included, in order; or the fault of
-    /// `intervals`.
+    /// Makes a run for each data interval that starts from `from` to `to`, both included, by date. Err comes as
+    /// `intervals` gives it.
     pub fn in_range(
         alloc: Global,
         spec: &CronSpec,
@@ -57,7 +56,7 @@ impl Runs {
         Ok(Runs { intervals })
     }
 
-    /// The runs of these data intervals, which are in order, at most `MOST_RUNS` and in the years of runs.
+    /// Makes the runs of these data intervals, which must be by date, at most `MOST_RUNS` and in the years of runs.
     pub fn from_intervals(intervals: Vec<Interval>) -> Runs
         requires { AreOfRuns intervals.items }
         ensures { result ≡ intervals.items }
@@ -65,8 +64,8 @@ impl Runs {
         Runs { intervals }
     }
 
-    /// One run, whose data interval starts and ends at a moment; `OutsideYears` where that isn't in the years of
-    /// runs.
+    /// Makes one run, whose data interval starts and ends at `moment`. `OutsideYears` where that isn't in the years
+    /// 1970 to 2199, `OutOfMemory` at want of memory.
     pub fn single_at(alloc: Global, moment: Timestamp) -> Result<Runs, IntervalFault>
         requires { IsInYears moment.nanosecond → IsWhole moment.nanosecond }
         ensures ok { IfOk result (λ runs.
@@ -84,7 +83,7 @@ impl Runs {
         Ok(Runs { intervals })
     }
 
-    /// The data interval of each run, in order of date.
+    /// Gives the data interval of each run, by date.
     #[tactic(auto, using(crate::proofs::OfRuns::shown_of_runs))]
     pub fn intervals(&self) -> &[Interval]
         ensures intervals { result.now ≡ self.now }
@@ -94,7 +93,7 @@ impl Runs {
         self.intervals.as_slice()
     }
 
-    /// How many runs there are.
+    /// Counts the runs.
     pub fn count(&self) -> usize
         ensures count { result ≡ length self.now }
         ensures few { result ≤ 4_096 }
@@ -106,7 +105,7 @@ impl Runs {
 impl RunCount for Runs {
     ghost runs = { λ runs. length runs };
 
-    /// How many runs there are.
+    /// Counts the runs.
     fn count(&self) -> usize {
         Runs::count(self)
     }

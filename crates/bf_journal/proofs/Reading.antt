@@ -17,7 +17,8 @@ use Rattle.bf_plan.specs.declared.plan.Dag.{Dag}
 use Rattle.bf_plan.specs.declared.plan.Task.{Task}
 use Rattle.bf_plan.specs.Plans.{no_task, shape_of, task_of}
 use Rattle.bf_plan.specs.Sound.{IsNamed}
-use Rattle.bf_plan.proofs.ListLemmas.{position_cons, some_same}
+use Rattle.bf_plan.proofs.ListLemmas.{some_same}
+use Rattle.bf_plan.proofs.PlanLemmas.{task_found}
 use Rattle.bf_interval.specs.declared.interval.Interval.{Interval}
 use Rattle.bf_moment.specs.Moment.{moment_text}
 use Rattle.bf_xcom.specs.Pulls.{pushed_by}
@@ -42,27 +43,6 @@ id_of dag id t found =
     let (within, is, before) = position-Some (bytes_eq id) ids t [] found in
     let inside : t < length dag.tasks = omega (arith, within, length-map dag.tasks (λ (task : Task). task.id)) in
     (inside, (bytes_decides id (get_or ids t [])).0 is ∙ get_or-map (λ (task : Task). task.id) dag.tasks t no_task [] inside)
-
--- of distinct texts the one at a place stands nowhere before it
-place_of : (ids : List (List ℕ)) (id : List ℕ) (t : ℕ) → AreDistinct ids → t < length ids → get_or ids t [] ≡ id → position (bytes_eq id) ids ≡ Some t
-place_of [] id t distinct within is = absurd (omega (arith, within))
-place_of (x ∷ xs) id zero distinct within is =
-    let same : bytes_eq id x ≡ true = (bytes_decides id x).1 (sym is) in
-    position_cons (bytes_eq id) x xs ∙ ap (λ b. if b then Some 0 else option_map suc (position (bytes_eq id) xs)) same
-place_of (x ∷ xs) id (suc t) distinct within is =
-    let other : bytes_eq id x ≡ false = elim (cases_Bool (bytes_eq id x)) [
-      | inl same ↦ absurd (distinct 0 (suc t) [] (omega arith) within (sym ((bytes_decides id x).0 same) ∙ sym is))
-      | inr not_same ↦ not_same
-    ] in
-    let rest : position (bytes_eq id) xs ≡ Some t = place_of xs id t (λ i j d below inside. distinct (suc i) (suc j) d (omega arith) (omega arith)) (omega arith) is in
-    position_cons (bytes_eq id) x xs ∙ ap (λ b. if b then Some 0 else option_map suc (position (bytes_eq id) xs)) other ∙ ap (option_map suc) rest
-
-task_found : (dag : Dag) (t : ℕ) → IsNamed dag → t < length dag.tasks → position (bytes_eq (task_of dag t).id) (shape_of dag).ids ≡ Some t
-unfolding task_of
-task_found dag t named within =
-    let ids : List (List ℕ) = map (λ (task : Task). task.id) dag.tasks in
-    place_of ids (get_or dag.tasks t no_task).id t named.distinct (omega (arith, within, length-map dag.tasks (λ (task : Task). task.id)))
-    (get_or-map (λ (task : Task). task.id) dag.tasks t no_task [] within)
 
 -- where there is no such task, one that asks for nothing is meant
 pub no_task_there : (dag : Dag) (t : ℕ) → slice_get dag.tasks t ≡ None → task_of dag t ≡ no_task

@@ -17,25 +17,25 @@ use bf_interval::Runs;
 use bf_plan::Plan;
 use bf_try::Entry;
 use bf_value::{JobName, Sequence};
-use bf_xcom::{Given, Outcome};
+use bf_xcom::{Given, Outcome, SharedValue};
 use itoa::Buffer;
 use std::alloc::Global;
 
-/// Whether a byte stands for itself in JSON.
+/// Answers whether a byte stands for itself inside a JSON text: it isn't a quote, a backslash or a control character.
 fn is_plain(byte: u8) -> bool
     ensures { result ≡ is_plain_byte byte }
 {
     byte != b'"' && byte != b'\\' && byte >= 32
 }
 
-/// Whether each of these bytes stands for itself in JSON.
+/// Answers whether each of these bytes stands for itself inside a JSON text (`is_plain`).
 fn are_plain(bytes: &[u8]) -> bool
     ensures { result ≡ list_all is_plain_byte bytes.now }
 {
     bytes.iter().all(|byte| is_plain(*byte))
 }
 
-/// The text whose JSON this is, where no byte of it is escaped. None tells nothing: there may be a text.
+/// Reads a JSON text in which nothing is escaped. None settles nothing: the full reading may still find a text.
 #[tactic(auto, using(crate::proofs::Pieces::escape_plain))]
 fn text_in(json: &[u8]) -> Option<&str>
     ensures text { IfSome result (λ t. json.now ≡ quoted t.now) }
@@ -48,7 +48,7 @@ fn text_in(json: &[u8]) -> Option<&str>
     std::str::from_utf8(bytes).ok()
 }
 
-/// The whole number whose JSON this is, of 64 bits. None tells nothing: there may be a number.
+/// Reads a whole JSON number of 64 bits with a sign. None settles nothing: the full reading may still find one.
 fn number_in(json: &[u8]) -> Option<i64>
     ensures { IfSome result (λ n. FitsSigned w64 n × (json.now ≡ signed_decimal n)) }
 {
@@ -64,8 +64,8 @@ fn number_in(json: &[u8]) -> Option<i64>
     Some(number)
 }
 
-/// The name of the try whose record begins so, and the record's bytes after it. None tells nothing: the line may be a
-/// record all the same.
+/// Reads the try's name from the front of a record's line, and gives it with the bytes that follow. None settles
+/// nothing: the full reading may still find a record.
 fn name_at_front<'l>(plan: &Plan, runs: &Runs, line: &'l [u8]) -> Option<(JobName, &'l [u8])>
     ensures { IfSome result (λ p. BeginsRecord plan.now.dag runs.now line.entry.now p.0 p.1.now) }
 {
@@ -86,15 +86,15 @@ fn name_at_front<'l>(plan: &Plan, runs: &Runs, line: &'l [u8]) -> Option<(JobNam
     Some((name, fields))
 }
 
-/// How a try ended that was given nothing and pushed nothing, and what follows in `fields`, the bytes after its name.
-/// None tells nothing.
+/// Reads, from the bytes after a try's name, how a try ended that was given nothing and pushed nothing, and gives it
+/// with the bytes that follow. None settles nothing: the record may be another kind.
 fn bare_outcome_in(fields: &[u8]) -> Option<(Outcome, &[u8])>
     ensures pushed { IfSome result (λ p. pushed_by p.0 ≡ None) }
     ensures fields { IfSome result
         (λ p. fields.now ≡ quoted (outcome_word p.0) ++ (codes ",[],[],[]," ++ p.1.now)) }
 {
     if let Some(stamp) = behind(fields, b"\"success\",[],[],[],") {
-        return Some((Outcome::Success(None), stamp));
+        return Some((Outcome::Success(SharedValue::nothing()), stamp));
     }
     if let Some(stamp) = behind(fields, b"\"failed\",[],[],[],") {
         return Some((Outcome::Failed, stamp));
@@ -103,7 +103,8 @@ fn bare_outcome_in(fields: &[u8]) -> Option<(Outcome, &[u8])>
     Some((Outcome::Skipped, stamp))
 }
 
-/// The three numbers, start, end and exit code, of the stamp that ends a record. None tells nothing.
+/// Reads the stamp that ends a record: start, end and exit code. None settles nothing: the full reading may still find
+/// a stamp.
 fn stamp_in(text: &[u8]) -> Option<(i64, i64, i64)>
     ensures { IfSome result (λ s. IsStamp text.now s.0 s.1 s.2) }
 {
@@ -113,8 +114,7 @@ fn stamp_in(text: &[u8]) -> Option<(i64, i64, i64)>
     Some((number_in(start)?, number_in(end)?, number_in(code)?))
 }
 
-/// The try whose bare record a line is, as it is written. None tells nothing: `told_try_in` then reads the line in
-/// full.
+/// Reads a line that is the bare record of a try. None settles nothing: `told_try_in` then reads the line in full.
 pub(crate) fn bare_try_in(
     alloc: Global,
     plan: &Plan,

@@ -6,9 +6,9 @@ use bf_device::{Halt, MOST_INTERRUPTIONS, Output};
 use std::fs::OpenFile;
 use std::io;
 
-/// A device that can drop the last of the bytes that it was given.
+/// A device that can drop bytes from its end.
 pub trait Cuttable: Durable {
-    /// Drops all bytes of the device but the first `count`; where it halts, none is dropped.
+    /// Keeps the first `count` bytes of the device and drops the rest; drops none at an Err.
     fn cut(&mut self, count: usize) -> Result<(), Halt>
         ensures ok { OnOk result (Self.written self.new
             ≡ option_map (take count) (Self.written self.old)) }
@@ -16,7 +16,7 @@ pub trait Cuttable: Durable {
 }
 
 impl<F: io::Write + OpenFile + Drop> Cuttable for Output<F> {
-    /// Sets the length of the file to `count` bytes.
+    /// Truncates the file to `count` bytes.
     fn cut(&mut self, count: usize) -> Result<(), Halt> {
         match self.inner.set_len(count as u64) {
             Ok(()) => Ok(()),
@@ -25,8 +25,8 @@ impl<F: io::Write + OpenFile + Drop> Cuttable for Output<F> {
     }
 }
 
-/// Drops all bytes of the device but the first `count`. False, and none is dropped, where that fails, and at the
-/// 1,001st interruption.
+/// Keeps the first `count` bytes of the device, drops the rest and answers true. False, with none dropped, where that
+/// fails or is interrupted 1,001 times.
 pub(crate) fn try_cut<D: Cuttable>(device: &mut D, count: usize) -> bool
     ensures cut { result ≡ true → D.written device.new
         ≡ option_map (take count) (D.written device.old) }

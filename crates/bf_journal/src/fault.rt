@@ -7,12 +7,12 @@ use std::alloc::{AllocError, AllocFailed};
 use std::error::Error;
 use std::fmt;
 
-/// Why nothing is kept of a journal. Lines are counted from 1, which is the head.
+/// Why a journal could not be read. Lines are counted from 1, the head.
 #[derive(Clone, Copy, Debug, PartialEq, Eq)]
 pub enum JournalFault {
-    /// The line is whole, and tells of no try of this plan and its runs.
+    /// This whole line is no record of a try of this plan and its runs.
     BadRecord(u64),
-    /// It is of another backfill: neither begins with its head nor is the beginning of it.
+    /// The journal is of another backfill: it neither begins with this one's head nor is a beginning of that head.
     Mismatch,
     OutOfMemory,
 }
@@ -20,7 +20,7 @@ pub enum JournalFault {
 impl JournalFault {
     ghost use Rattle.bf_journal.specs.Found.{refusal_number_of};
 
-    /// The number of the refusal (docs/FORMATS.md), 33 or 43; None for want of memory.
+    /// Gives the number of the refusal in docs/FORMATS.md, 33 or 43; None for `OutOfMemory`, which refuses no journal.
     pub fn refusal_number(self) -> Option<u32>
         ensures { result ≡ refusal_number_of self }
     {
@@ -53,6 +53,7 @@ impl Error for JournalFault {}
 impl From<OutOfMemory> for JournalFault {
     ghost from_gives = { λ _ e. e ≡ OutOfMemory };
 
+    /// Gives `OutOfMemory`.
     fn from(_e: OutOfMemory) -> JournalFault {
         JournalFault::OutOfMemory
     }
@@ -61,6 +62,7 @@ impl From<OutOfMemory> for JournalFault {
 impl From<AllocError> for JournalFault {
     ghost from_gives = { λ _ e. e ≡ OutOfMemory };
 
+    /// Gives `OutOfMemory`.
     fn from(_e: AllocError) -> JournalFault {
         JournalFault::OutOfMemory
     }
@@ -69,6 +71,7 @@ impl From<AllocError> for JournalFault {
 impl<T: Drop> From<AllocFailed<T>> for JournalFault {
     ghost from_gives = { λ _ e. e ≡ OutOfMemory };
 
+    /// Gives `OutOfMemory`.
     fn from(_e: AllocFailed<T>) -> JournalFault {
         JournalFault::OutOfMemory
     }

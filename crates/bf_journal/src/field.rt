@@ -8,10 +8,10 @@ ghost use Rattle.bf_journal.specs.Records.{optional_value_of, outcome_word};
 ghost use Rattle.bf_journal.specs.inner.Tells.{IsFound};
 
 use bf_value::{OutOfMemory, Xval};
-use bf_xcom::{Outcome, Pulled};
+use bf_xcom::{Outcome, SharedValue};
 use std::alloc::Global;
 
-/// The text in the field at the index `at`; None where it is no text, or there is no such field.
+/// Gives the text in the field at this index, from 0; None where the field is no text, or missing.
 pub(crate) fn text_at(fields: &[Xval], at: usize) -> Option<&str>
     ensures { IsFound (λ text. slice_get fields.now at ≡ Some (Text text))
         (option_map (λ t. t.now) result) }
@@ -22,7 +22,7 @@ pub(crate) fn text_at(fields: &[Xval], at: usize) -> Option<&str>
     }
 }
 
-/// The whole number in the field at the index `at`; None where it is none, or there is no such field.
+/// Gives the whole number in the field at this index, from 0; None where the field is no such number, or missing.
 pub(crate) fn int_at(fields: &[Xval], at: usize) -> Option<i64>
     ensures { IsFound (λ n. slice_get fields.now at ≡ Some (Int n)) result }
 {
@@ -32,22 +32,21 @@ pub(crate) fn int_at(fields: &[Xval], at: usize) -> Option<i64>
     }
 }
 
-/// A number as a map index; None where it doesn't fit into 32 bits with a sign.
+/// Converts a number to a map index; None where it doesn't fit 32 bits with a sign.
 pub(crate) fn index_in(number: i64) -> Option<i32>
     ensures { IsFound (λ index. FitsSigned w32 index × (number ≡ index)) result }
 {
     i32::try_from(number).ok()
 }
 
-/// A number as that of a try; None where it is negative or doesn't fit into 32 bits.
+/// Converts a number to that of a try; None where it is negative or doesn't fit 32 bits.
 pub(crate) fn attempt_in(number: i64) -> Option<u32>
     ensures { IsFound (λ attempt. (attempt < 2 ^ 32) × (number ≡ pos attempt)) result }
 {
     u32::try_from(number).ok()
 }
 
-/// The value in a list of one, or `Some(None)` for the empty list, which stands for nothing; None for any other
-/// value.
+/// Reads an optional value: `Some(None)` for the empty list, the value for a list of one; None for anything else.
 pub(crate) fn optional_value_in(
     alloc: Global,
     value: &Xval,
@@ -64,8 +63,8 @@ pub(crate) fn optional_value_in(
     }
 }
 
-/// The value in the list at the index `at`, or `Some(None)` where that list is empty; None where no such list is
-/// there.
+/// Reads the optional value in the field at this index, from 0, as `optional_value_in` does; None also where there is
+/// no such field.
 pub(crate) fn optional_value_at(
     alloc: Global,
     fields: &[Xval],
@@ -79,24 +78,24 @@ pub(crate) fn optional_value_at(
     }
 }
 
-/// The pulled value in each of these lists of one, nothing in an empty one; None where one of `values` is no such
-/// list.
-fn pulled_values_of(alloc: Global, values: &[Xval]) -> Result<Option<Vec<Pulled>>, OutOfMemory>
+/// Reads each of `values` as an optional pulled value, a list of one or the empty list for nothing; None where one of
+/// them is neither.
+fn pulled_values_of(alloc: Global, values: &[Xval]) -> Result<Option<Vec<SharedValue>>, OutOfMemory>
     ensures { IfOk result (λ o. IsFound (λ all. values.now ≡ map optional_value_of all)
         (option_map (λ v. v.items) o)) }
 {
     let mut all = Vec::with_capacity(alloc, values.len())?;
     for value in values {
         match optional_value_in(alloc, value)? {
-            Some(one) => all.push(Pulled::new(alloc, one)?)?,
+            Some(one) => all.push(SharedValue::new(alloc, one)?)?,
             None => return Ok(None),
         }
     }
     Ok(Some(all))
 }
 
-/// The pulled values that a list has, each in a list of its own that may be empty; None for any other value.
-fn pulled_values_in(alloc: Global, value: &Xval) -> Result<Option<Vec<Pulled>>, OutOfMemory>
+/// Reads a list of optional pulled values, each a list of one or the empty list for nothing; None for anything else.
+fn pulled_values_in(alloc: Global, value: &Xval) -> Result<Option<Vec<SharedValue>>, OutOfMemory>
     ensures { IfOk result (λ o. IsFound (λ all. value.now ≡ list_of (map optional_value_of all))
         (option_map (λ v. v.items) o)) }
 {
@@ -106,13 +105,13 @@ fn pulled_values_in(alloc: Global, value: &Xval) -> Result<Option<Vec<Pulled>>, 
     pulled_values_of(alloc, values.as_slice())
 }
 
-/// The pulled values in the list at the index `at`, each in a list of its own that may be empty; None where no such
-/// list is there.
+/// Reads the list of optional pulled values in the field at this index, from 0, as `pulled_values_in` does; None also
+/// where there is no such field.
 pub(crate) fn pulled_values_at(
     alloc: Global,
     fields: &[Xval],
     at: usize,
-) -> Result<Option<Vec<Pulled>>, OutOfMemory>
+) -> Result<Option<Vec<SharedValue>>, OutOfMemory>
     ensures { IfOk result (λ o. IsFound
         (λ all. slice_get fields.now at ≡ Some (list_of (map optional_value_of all)))
         (option_map (λ v. v.items) o)) }
@@ -123,15 +122,15 @@ pub(crate) fn pulled_values_at(
     }
 }
 
-/// The outcome that this word names with what the try pushed; None for any other word, and where a try pushed a value
-/// and didn't succeed.
-pub(crate) fn outcome_in(word: &str, pushed: Option<Xval>) -> Option<Outcome>
+/// Makes an outcome from its word and from what the try pushed; None for an unknown word, and where a try that didn't
+/// succeed pushed a value.
+pub(crate) fn outcome_in(word: &str, pushed: SharedValue) -> Option<Outcome>
     ensures { IsFound (λ o. (word.now ≡ outcome_word o) × (pushed ≡ pushed_by o)) result }
 {
     if word == "success" {
         return Some(Outcome::Success(pushed));
     }
-    match pushed {
+    match pushed.get() {
         Some(_) => None,
         None if word == "failed" => Some(Outcome::Failed),
         None if word == "skipped" => Some(Outcome::Skipped),

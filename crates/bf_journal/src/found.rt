@@ -13,8 +13,8 @@ use bf_plan::Plan;
 use bf_try::Ledger;
 use std::alloc::Global;
 
-/// The tries that are kept of a journal, how many bytes at its front are whole lines, and how many stand behind them:
-/// of a line that was cut short.
+/// What a journal holds: its tries, the number of bytes in its whole lines, and the number of bytes behind them, of a
+/// line that was cut short.
 #[derive(Drop)]
 pub struct Found {
     pub tries: Ledger,
@@ -22,8 +22,8 @@ pub struct Found {
     pub torn: usize,
 }
 
-/// What is found where the bytes don't begin with the head: no tries, where they are a beginning of it, cut short,
-/// and else `Mismatch`, since the journal is of another backfill.
+/// Judges a journal that doesn't begin with the head: no tries and no whole line where it is a cut-short beginning of
+/// the head, else `Mismatch`, since it is of another backfill.
 #[tactic(auto, using(crate::proofs::Heading::begins))]
 fn found_in_head(alloc: Global, head: &[u8], bytes: &[u8]) -> Result<Found, JournalFault>
     ensures ok { IfOk result (λ f. IsCutHead head.now bytes.now f.whole (FinMap.get f.tries)) }
@@ -41,10 +41,9 @@ fn found_in_head(alloc: Global, head: &[u8], bytes: &[u8]) -> Result<Found, Jour
     }
 }
 
-/// What is found in the bytes of a journal that begins with this head, which is that of the plan and its runs: of
-/// each name the last try whose outcome fits the plan. A journal that is no more than the beginning of its head is to
-/// be begun anew: no byte of it is whole. `Mismatch` for another head, `BadRecord` for a whole line that is no
-/// record.
+/// Reads a journal, whose head must be `head`, that of the plan and its runs. Of each name it keeps the last try whose
+/// outcome fits the plan. A cut-short head gives no tries and no whole line; `Mismatch` for another head, `BadRecord`
+/// for the first whole line that is no record, `OutOfMemory` at want of memory.
 pub fn read_journal(
     alloc: Global,
     plan: &Plan,

@@ -12,13 +12,13 @@ use bf_plan::{Dag, Plan, Task};
 use bf_value::{OutOfMemory, Text, Values, Xval, text_of};
 use std::alloc::Global;
 
-/// The words that a journal begins with.
+/// The text that is the first field of a journal's head.
 const WORDS: &str = "backfill journal";
 
-/// The version of the form of journals.
+/// The version of the journal's format, the second field of its head.
 const VERSION: i64 = 1;
 
-/// The id of the task of a number; empty where there is no such task.
+/// Gives the id of the task with this number; empty where there is no such task.
 #[tactic(auto, unfolding(bf_plan::specs::Plans::task_of))]
 pub fn id_of(dag: &Dag, task: u32) -> &str
     ensures { result.now ≡ (task_of dag.now task).id }
@@ -29,7 +29,7 @@ pub fn id_of(dag: &Dag, task: u32) -> &str
     }
 }
 
-/// A task as a list of the head: its id, and the ids of the tasks that it pulls from.
+/// Makes a task's entry in the head: a list of its id and the ids of the tasks that it pulls from.
 fn value_of_task(alloc: Global, dag: &Dag, task: &Task) -> Result<Xval, OutOfMemory>
     ensures { IfOk result (λ v. v ≡ task_value dag.now task.now) }
 {
@@ -41,7 +41,7 @@ fn value_of_task(alloc: Global, dag: &Dag, task: &Task) -> Result<Xval, OutOfMem
     Ok(Xval::List(Values::new(ids)))
 }
 
-/// The tasks of a graph in file order, as a list of the head.
+/// Makes the head's list of the tasks, in file order.
 fn value_of_tasks(alloc: Global, dag: &Dag) -> Result<Xval, OutOfMemory>
     ensures { IfOk result (λ v. v ≡ list_of (map (task_value dag.now) dag.now.tasks)) }
 {
@@ -52,7 +52,7 @@ fn value_of_tasks(alloc: Global, dag: &Dag) -> Result<Xval, OutOfMemory>
     Ok(Xval::List(Values::new(tasks)))
 }
 
-/// Where a data interval starts and ends, as a value of the head.
+/// Makes a data interval's entry in the head: a list of its start and its end.
 fn value_of_interval(alloc: Global, interval: &Interval) -> Result<Xval, OutOfMemory>
     requires { IsShownInterval interval.now }
     ensures { IfOk result (λ v. v ≡ interval_value interval.now) }
@@ -62,7 +62,7 @@ fn value_of_interval(alloc: Global, interval: &Interval) -> Result<Xval, OutOfMe
     Ok(Xval::List(Values::new(vec![in alloc; start, end]?)))
 }
 
-/// The data intervals of the runs, as a list of the head.
+/// Makes the head's list of the runs' data intervals, by date.
 fn value_of_intervals(alloc: Global, runs: &Runs) -> Result<Xval, OutOfMemory>
     ensures { IfOk result (λ v. v ≡ list_of (map interval_value runs.now)) }
 {
@@ -73,7 +73,7 @@ fn value_of_intervals(alloc: Global, runs: &Runs) -> Result<Xval, OutOfMemory>
     Ok(Xval::List(Values::new(intervals)))
 }
 
-/// A task in the run that starts at a moment, or the instance of a map index, which is cleared.
+/// What is cleared: a task in the run that starts at `run`, or only its instance with this map index.
 #[derive(Drop)]
 pub struct ClearedTask {
     pub task: Text,
@@ -81,7 +81,7 @@ pub struct ClearedTask {
     pub index: Option<i32>,
 }
 
-/// The fields of a cleared task: the task, its run, and its map index, left out for None.
+/// Makes the fields of a cleared task: its id, its run, and its map index, which is left out for None.
 fn seed_fields(
     alloc: Global,
     task: Xval,
@@ -96,8 +96,8 @@ fn seed_fields(
     }
 }
 
-/// A cleared task as a list of the head: its id, the start of its run, and the map index where just one instance is
-/// cleared.
+/// Makes a cleared task's entry in the head: its id, the start of its run and, where only one instance is cleared, its
+/// map index.
 fn value_of_seed(alloc: Global, seed: &ClearedTask) -> Result<Xval, OutOfMemory>
     ensures { IfOk result (λ v. v ≡ seed_value seed.now) }
 {
@@ -107,7 +107,7 @@ fn value_of_seed(alloc: Global, seed: &ClearedTask) -> Result<Xval, OutOfMemory>
     Ok(Xval::List(Values::new(words)))
 }
 
-/// What is cleared, as a list of the head.
+/// Makes the head's list of what is cleared, in the order of `seeds`.
 fn value_of_seeds(alloc: Global, seeds: &[ClearedTask]) -> Result<Xval, OutOfMemory>
     ensures { IfOk result (λ v. v ≡ list_of (map seed_value seeds.now)) }
 {
@@ -118,7 +118,7 @@ fn value_of_seeds(alloc: Global, seeds: &[ClearedTask]) -> Result<Xval, OutOfMem
     Ok(Xval::List(Values::new(words)))
 }
 
-/// The head of a journal as one value: a graph, its runs and, where something is, what is cleared.
+/// Makes the head as one value: the graph, its runs and, unless `seeds` is empty, what is cleared.
 fn value_of_head(
     alloc: Global,
     dag: &Dag,
@@ -138,8 +138,8 @@ fn value_of_head(
     Ok(Xval::List(Values::new(fields)))
 }
 
-/// The line, its line feed included, that a journal of this backfill begins with. It is never parsed: a journal that
-/// doesn't begin with it is of another backfill. `seeds` is what is cleared; a backfill that clears nothing has none.
+/// Makes the first line of this backfill's journal, with its line feed. It is only compared, never parsed: a journal
+/// that begins otherwise is of another backfill. `seeds` is what is cleared, empty where nothing is.
 #[tactic(auto, unfolding(crate::specs::Heads::head_text))]
 pub fn head_of(
     alloc: Global,

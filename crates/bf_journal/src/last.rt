@@ -11,7 +11,7 @@ use bf_try::{Entry, Ledger, NoteFault, fits};
 use bf_value::{JobName, OutOfMemory};
 use std::alloc::Global;
 
-/// Adds a try to a ledger; does nothing where the ledger has one of the same name.
+/// Adds a try to a ledger; does nothing where the ledger already has one of that name.
 #[tactic(auto, using(crate::proofs::Lasting::noted, crate::proofs::Lasting::not_noted))]
 fn note_if_unnoted(ledger: &mut Ledger, name: JobName, entry: Entry) -> Result<(), OutOfMemory>
     ensures { OnOk result ((n : JobName) →
@@ -25,8 +25,8 @@ fn note_if_unnoted(ledger: &mut Ledger, name: JobName, entry: Entry) -> Result<(
     }
 }
 
-/// Adds a try to a ledger that holds later ones; does nothing where the ledger has one of the same name, or the try's
-/// outcome doesn't fit the plan.
+/// Adds a try to a ledger that already has the later ones; does nothing where one of them has its name, or its outcome
+/// doesn't fit the plan.
 fn note_earlier_fit(
     ledger: &mut Ledger,
     plan: &Plan,
@@ -44,7 +44,7 @@ fn note_earlier_fit(
     note_if_unnoted(ledger, name, entry)
 }
 
-/// The ledger of these tries, which are in the order of their records: of each name the last whose outcome fits the
+/// Makes a ledger of these tries, which are in the order of their records: of each name the last whose outcome fits the
 /// plan.
 pub(crate) fn last_of(
     alloc: Global,

@@ -5,7 +5,8 @@ ghost use Rattle.bf_journal.specs.inner.Lines.{IsInLine};
 
 use memchr::memchr;
 
-/// The first whole line, without its line feed, and what follows that; None where there is no line feed.
+/// Splits off the first line: gives it without its line feed, and the bytes behind that. None where there is no line
+/// feed.
 #[tactic(auto, using(crate::proofs::Finding::first_found, crate::proofs::Finding::none_found))]
 pub(crate) fn first_line(bytes: &[u8]) -> Option<(&[u8], &[u8])>
     ensures some { IfSome result (λ p. (bytes.now ≡ p.0.now ++ 10 ∷ p.1.now) × IsInLine p.0.now

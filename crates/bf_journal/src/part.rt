@@ -3,7 +3,7 @@ ghost use Rattle.std.specs.Prelude.{◌≡◌, ◌≢◌, ◌++◌, ◌∷◌, �
 
 use memchr::memchr;
 
-/// What follows `front` in the bytes; None where they don't begin with it.
+/// Gives what follows `front`; None where the bytes don't begin with it.
 pub(crate) fn behind<'b>(bytes: &'b [u8], front: &[u8]) -> Option<&'b [u8]>
     ensures { MatchOption result ((rest : List ℕ) → bytes.entry.now ≢ front.now ++ rest)
         (λ rest. bytes.entry.now ≡ front.now ++ rest.now) }
@@ -11,7 +11,7 @@ pub(crate) fn behind<'b>(bytes: &'b [u8], front: &[u8]) -> Option<&'b [u8]>
     bytes.strip_prefix(front)
 }
 
-/// What is before `end` in the bytes; None where they don't end with it.
+/// Gives what stands before `end`; None where the bytes don't end with it.
 pub(crate) fn before<'b>(bytes: &'b [u8], end: &[u8]) -> Option<&'b [u8]>
     ensures { MatchOption result ((rest : List ℕ) → bytes.entry.now ≢ rest ++ end.now)
         (λ rest. bytes.entry.now ≡ rest.now ++ end.now) }
@@ -19,8 +19,7 @@ pub(crate) fn before<'b>(bytes: &'b [u8], end: &[u8]) -> Option<&'b [u8]>
     bytes.strip_suffix(end)
 }
 
-/// What is before the first comma, and what after it. Contracts don't say that it is the first, nor that None means
-/// that there is none.
+/// Splits a text at its first comma; None where it has none. Contracts say only that the two parts lie round a comma.
 #[tactic(auto, using(crate::proofs::Finding::taken))]
 pub(crate) fn split_comma(text: &[u8]) -> Option<(&[u8], &[u8])>
     ensures { IfSome result (λ p. text.now ≡ p.0.now ++ 44 ∷ p.1.now) }

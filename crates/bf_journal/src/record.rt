@@ -12,13 +12,13 @@ use bf_interval::{Interval, Runs};
 use bf_plan::Plan;
 use bf_try::{Done, Exit};
 use bf_value::{OutOfMemory, Values, Xval, text_of};
-use bf_xcom::{Outcome, Pulled};
+use bf_xcom::{Outcome, SharedValue};
 use std::alloc::Global;
 
-/// How deep the lists of a record may nest: as deep as JSON is read.
+/// How deep a record's lists may nest, which is as deep as JSON can be read back.
 pub(crate) const DEEPEST_RECORD: usize = 127;
 
-/// A value that may be missing, as a record has it: a list of the value, or the empty list for None.
+/// Makes the field of an optional value: a list of the value, or the empty list for None.
 fn optional_value(alloc: Global, value: Option<&Xval>) -> Result<Xval, OutOfMemory>
     ensures { IfOk result (λ v. v ≡ optional_value_of (option_copied value.entry)) }
 {
@@ -32,8 +32,8 @@ fn optional_value(alloc: Global, value: Option<&Xval>) -> Result<Xval, OutOfMemo
     }
 }
 
-/// Pulled values as a record has them: each as a list of the value, or as the empty list.
-fn optional_values(alloc: Global, values: &[Pulled]) -> Result<Vec<Xval>, OutOfMemory>
+/// Makes the fields of pulled values: for each a list of the value, or the empty list for nothing.
+fn optional_values(alloc: Global, values: &[SharedValue]) -> Result<Vec<Xval>, OutOfMemory>
     ensures { IfOk result (λ all. all.items ≡ map optional_value_of values.now) }
 {
     let mut all = Vec::with_capacity(alloc, values.len())?;
@@ -43,7 +43,7 @@ fn optional_values(alloc: Global, values: &[Pulled]) -> Result<Vec<Xval>, OutOfM
     Ok(all)
 }
 
-/// The word of a record for how a try ended.
+/// Gives a record's word for an outcome.
 fn word_of(outcome: &Outcome) -> &'static str
     ensures { result.now ≡ outcome_word outcome.now }
 {
@@ -54,8 +54,8 @@ fn word_of(outcome: &Outcome) -> &'static str
     }
 }
 
-/// The exit status that a shell shows: the exit code, 128 and the number of a signal, 128 where that isn't known, and
-/// -1 where nothing was started.
+/// Gives the exit status as a shell shows it: the exit code; 128 and the signal's number, or 128 where that isn't
+/// known; and -1 for a program that wasn't started.
 fn code_of(exit: Exit, signal: Option<i32>) -> i64
     ensures { result ≡ exit_code exit signal }
 {
@@ -67,7 +67,7 @@ fn code_of(exit: Exit, signal: Option<i32>) -> i64
     }
 }
 
-/// The stamp of a record: when a try started and ended, in milliseconds since 1970, and the code that it ended by.
+/// Makes a record's stamp: when the try started and ended, in milliseconds since 1970, and its exit code (`code_of`).
 fn stamp_of(alloc: Global, stamp: Stamp, exit: Exit) -> Result<Xval, OutOfMemory>
     ensures { IfOk result (λ v. v ≡ stamp_value stamp exit) }
 {
@@ -78,7 +78,8 @@ fn stamp_of(alloc: Global, stamp: Stamp, exit: Exit) -> Result<Xval, OutOfMemory
     Ok(Xval::List(Values::new(numbers)))
 }
 
-/// The record, as a value, of the answered try `done` with this outcome; `run` is the data interval of its run.
+/// Makes the record, as a value, of the answered try `done`, which has this outcome; `run` is the data interval of its
+/// run.
 fn value_of_record(
     alloc: Global,
     plan: &Plan,
@@ -108,7 +109,8 @@ fn value_of_record(
     Ok(Xval::List(Values::new(fields)))
 }
 
-/// A value as a line of a journal, with its line feed; None where its lists nest deeper than can be read back.
+/// Makes a journal's line of a value, with its line feed; None where its lists nest deeper than `DEEPEST_RECORD`, so
+/// that it couldn't be read back.
 fn line_of(alloc: Global, value: &Xval) -> Result<Option<String>, OutOfMemory>
     ensures some { IfOk result (λ o. IfSome o (λ line. IsLineOf value.now (string_bytes line))) }
     ensures none { IfOk result (λ o. IfNone o (¬ (plain_depth (plain_of value.now) ≤ 127))) }
@@ -122,8 +124,8 @@ fn line_of(alloc: Global, value: &Xval) -> Result<Option<String>, OutOfMemory>
     Ok(Some(line))
 }
 
-/// The line of the record of the answered try `done` with this outcome; `run` is the data interval of its run. None
-/// where its lists nest deeper than can be read back.
+/// Makes the line of the record, with its line feed, of the answered try `done`, which has this outcome; `run` is the
+/// data interval of its run. None where its lists nest too deep to be read back.
 fn record_line_of(
     alloc: Global,
     plan: &Plan,
@@ -144,9 +146,8 @@ fn record_line_of(
     line_of(alloc, &value)
 }
 
-/// The line of the record, its line feed included, of the answered try `done` that ended with this outcome. None
-/// where there is no such task or run, and where lists nest too deep to be read back, which those that programs push
-/// never do.
+/// Makes the line of the record, with its line feed, of the answered try `done`, which has this outcome. None where the
+/// plan has no such task or run, or lists nest too deep to be read back, which those of programs never do.
 pub fn record_of(
     alloc: Global,
     plan: &Plan,

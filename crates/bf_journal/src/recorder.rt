@@ -10,11 +10,11 @@ use bf_device::send;
 use std::marker::{Model, PhantomData};
 use std::time::Duration;
 
-/// The least time between two syncs, in seconds.
+/// The least time from one sync to the next, in seconds.
 const PAUSE: u64 = 1;
 
-/// Writes records behind each other, and syncs at most once a second. Where a write fails nothing more is written,
-/// since a record that was cut short would run into the next. Contracts see what was written and why no further try
+/// Appends records to a device, which it syncs at most once a second. After a failed write it writes nothing more,
+/// since the next record would run into one that was cut short. Contracts see what was written, and why no further try
 /// is begun.
 #[derive(Drop)]
 pub struct Recorder<K: Journaled, D: Durable + Drop> {
@@ -44,7 +44,7 @@ impl<K: Journaled, D: Durable + Drop> Model for Recorder<K, D> {
     ghost invariant = { λ r. IsWritten K.may_record K.base (D.written r.device) r.write_failed };
 }
 
-/// Writes a line to the device, and syncs the device where `due`. False where either fails.
+/// Writes a line to the device, syncs the device where `due`, and answers true; false where either fails.
 fn try_record_line<D: Durable>(device: &mut D, line: &[u8], due: bool) -> bool
     ensures { GoesOut line.now (D.written device.old) (D.written device.new) result }
 {
@@ -56,8 +56,8 @@ fn try_record_line<D: Durable>(device: &mut D, line: &[u8], due: bool) -> bool
 }
 
 impl<K: Journaled, D: Durable + Drop> Recorder<K, D> {
-    /// A recorder that writes after what the device was given. Once `most_failed` tries have failed no further one is
-    /// to begin; None for no such bound. `now` is the present moment of the monotonic clock, here and below.
+    /// Makes a recorder that writes behind what the device holds. Once `most_failed` tries have failed, `stop_reason`
+    /// says to begin no more; None sets no bound. `now` is the present moment of the monotonic clock.
     #[tactic(auto, using(crate::proofs::Going::begins))]
     pub fn new(device: D, most_failed: Option<u32>, now: Duration) -> Recorder<K, D>
         requires { K.base ≡ D.written device }
@@ -80,8 +80,9 @@ impl<K: Journaled, D: Durable + Drop> Recorder<K, D> {
         }
     }
 
-    /// Writes the line of a record to the device, and syncs it where a second has passed at `now` since the last
-    /// sync. A failure is kept for `stop_reason`; after one nothing more is written.
+    /// Writes a record's line to the device, and syncs the device where a second has passed since the last sync. `now`
+    /// is the present moment of the monotonic clock. A failure shows in `stop_reason`, and makes later calls write
+    /// nothing.
     pub fn record(&mut self, line: &[u8], now: Duration)
         requires { K.may_record line.now }
         ensures behind_failure { self.old.write_failed ≡ true → self.new ≡ self.old }
@@ -100,14 +101,14 @@ impl<K: Journaled, D: Durable + Drop> Recorder<K, D> {
         self.write_failed = !try_record_line(&mut self.device, line, due);
     }
 
-    /// Notes, for `stop_reason`, that memory was wanting for a record.
+    /// Notes that memory was wanting for a record, which shows in `stop_reason`.
     pub fn note_memory_failure(&mut self)
         ensures { self.new ≡ record self.old { memory_failed = true } }
     {
         self.memory_failed = true;
     }
 
-    /// Counts one more failed try.
+    /// Counts one more failed try, up to 2^32 - 1.
     pub fn count_failed(&mut self)
         ensures { self.new ≡ record self.old
             { failed_tries = min (self.old.failed_tries + 1) (2 ^ 32 - 1) } }
@@ -115,7 +116,7 @@ impl<K: Journaled, D: Durable + Drop> Recorder<K, D> {
         self.failed_tries = self.failed_tries.saturating_add(1);
     }
 
-    /// Why no further try is begun; None while tries may begin.
+    /// Gives the reason why no further try is to begin; None while tries may begin.
     pub fn stop_reason(&self) -> Option<Stop>
         ensures { result ≡ stop_reason_of self.now }
     {
@@ -131,8 +132,8 @@ impl<K: Journaled, D: Durable + Drop> Recorder<K, D> {
         }
     }
 
-    /// Syncs the device, unless a write has failed, and gives it back with the reason why no further try was begun;
-    /// None where tries might have begun.
+    /// Syncs the device, unless a write has failed, and gives it back with the reason why no further try was to begin;
+    /// None where tries might still have begun.
     #[tactic(auto, using(crate::proofs::Going::given_up))]
     pub fn close(mut self) -> (D, Option<Stop>)
         ensures written { IsWritten K.may_record K.base (D.written result.0)

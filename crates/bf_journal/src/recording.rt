@@ -18,8 +18,8 @@ use std::marker::Model;
 use std::sync::{Mutex, Wait};
 use std::time::{Clock, Duration};
 
-/// Hands each try on to a runner, and records how it ended. Every further try is given up, and not handed on, where a
-/// record can't be written, where memory is wanting for one, and where enough tries have failed; those that run are
+/// A runner that hands each try on to another runner and records how it ended. It gives up all further tries once a
+/// record can't be written, memory is wanting for one, or enough tries have failed; tries that already run are still
 /// recorded.
 #[derive(Drop)]
 pub struct Recording<'a, K: Journaled, RT, R: DetailedRunner, D: Durable + Drop> {
@@ -52,7 +52,7 @@ impl<'a, K: Journaled, RT, R: DetailedRunner, D: Durable + Drop> Model
         (R.may_answer s.runner.now) s.plan.now.dag s.runs.now };
 }
 
-/// How a try ended, and its line.
+/// The line of a try's record, None where it can have none, and whether the try failed.
 #[derive(Drop)]
 struct GradedRecord {
     has_failed: bool,
@@ -66,7 +66,7 @@ where
     R: DetailedRunner,
     D: Durable + Drop,
 {
-    /// A runner that makes each try by `runner`, and records how it ended by `recorder`.
+    /// Makes a runner that makes each try by `runner` and records how it ended by `recorder`.
     pub fn new(
         rt: &'a RT,
         alloc: Global,
@@ -93,13 +93,13 @@ where
         }
     }
 
-    /// The present moment of the monotonic clock, by which the recorder times its syncs; zero where the clock doesn't
-    /// answer. No clause says so.
+    /// Gives the present moment by the monotonic clock, for the recorder's syncs; zero where the clock doesn't answer.
+    /// No contract covers this.
     fn now(&self) -> Duration {
         self.rt.monotonic().unwrap_or(Duration::ZERO)
     }
 
-    /// What is to be recorded of an answered try: its line, None where it can have none, and whether it failed.
+    /// Makes the line of an answered try's record, None where it can have none, and says whether the try failed.
     /// Contracts say only that the line may be recorded.
     fn graded_record_of(&self, done: &Done, stamp: Stamp) -> Result<GradedRecord, OutOfMemory>
         requires may { R.may_answer self.now.runner done.now.name done.now.given done.now.raw }
@@ -112,8 +112,8 @@ where
         Ok(GradedRecord { has_failed, line })
     }
 
-    /// Writes the record of an answered try and counts it where it failed; does nothing for a task that isn't there.
-    /// Contracts say nothing of what is written, since the recorder is behind a lock.
+    /// Writes the record of an answered try, and counts the try where it failed; does nothing for a task that the plan
+    /// doesn't have. Contracts don't say what is written, since the recorder is behind a lock.
     fn record(&self, done: &Done, stamp: Stamp) -> Result<(), OutOfMemory>
         requires { R.may_answer self.now.runner done.now.name done.now.given done.now.raw }
     {
@@ -132,20 +132,22 @@ where
         Ok(())
     }
 
-    /// Notes in the recorder that memory was wanting for a record. No clause says so: the recorder is behind a lock.
+    /// Notes in the recorder that memory was wanting for a record. No contract covers this: the recorder is behind a
+    /// lock.
     fn note_memory_failure(&self) {
         let mut recorder = self.recorder.lock(self.rt);
         recorder.note_memory_failure();
     }
 
-    /// Why no further try is begun; None while tries may begin. No clause says so: the recorder is behind a lock.
+    /// Gives the reason why no further try is to begin; None while tries may begin. No contract covers this: the
+    /// recorder is behind a lock.
     pub fn stop_reason(&self) -> Option<Stop> {
         let recorder = self.recorder.lock(self.rt);
         recorder.stop_reason()
     }
 
-    /// Syncs the device, and gives it back with the reason why no further try was begun; None where tries might have
-    /// begun.
+    /// Syncs the device and gives it back with the reason why no further try was to begin; None where tries might still
+    /// have begun.
     pub fn close(self) -> (D, Option<Stop>)
         ensures { IsWritten K.may_record K.base (D.written result.0) (is_write_failed result.1) }
     {
@@ -161,8 +163,7 @@ where
     }
 }
 
-/// The number of the signal that ended a program, by the detail of its try; None where that tells none. No clause
-/// says so.
+/// Gives the number of the signal that ended a try's program; None where no detail names one. No contract covers this.
 fn signal_in(detail: &Option<Detail>) -> Option<i32> {
     match detail {
         Some(Detail::Signal(number)) => Some(*number),
@@ -181,8 +182,8 @@ where
 
     ghost may_give_up = { λ s n g. Unit {0} };
 
-    /// Makes a try by the inner runner and records how it ended. `GaveUp`, and the try isn't made, where no further
-    /// one is to begin.
+    /// Makes a try by the inner runner and records how it ended. `GaveUp`, without making the try, once no further try
+    /// is to begin; other faults are the inner runner's.
     fn run(&self, ticket: Ticket) -> Result<Done, (Ticket, RunnerFault)> {
         if self.stop_reason().is_some() {
             return Err((ticket, RunnerFault::GaveUp));

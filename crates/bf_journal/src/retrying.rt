@@ -11,15 +11,15 @@ use bf_value::{JobName, OutOfMemory};
 use bf_xcom::Given;
 use std::alloc::Global;
 
-/// The tries of a ledger but for the failed ones of instances that neither succeeded nor were skipped: those are made
-/// again (as by GNU parallel's `--resume-failed`).
+/// The tries of a ledger, less the failed ones of instances of which no try succeeded or was skipped. Those are made
+/// again, as by GNU parallel's `--resume-failed`.
 #[derive(Clone, Copy, Drop)]
 pub struct WithoutFailed<'a> {
     pub plan: &'a Plan,
     pub tries: &'a Ledger,
 }
 
-/// Whether the try of this entry failed; false for None.
+/// Answers whether this entry's try failed; false for None.
 fn has_failed_in(entry: Option<&Entry>) -> bool
     ensures { result ≡ has_failed (option_copied entry.entry) }
 {
@@ -29,7 +29,7 @@ fn has_failed_in(entry: Option<&Entry>) -> bool
     }
 }
 
-/// Whether the try of this entry succeeded or was skipped; false for None.
+/// Answers whether this entry's try succeeded or was skipped; false for None.
 fn has_passed_in(entry: Option<&Entry>) -> bool
     ensures { result ≡ has_passed (option_copied entry.entry) }
 {
@@ -39,7 +39,7 @@ fn has_passed_in(entry: Option<&Entry>) -> bool
     }
 }
 
-/// How often a failed try of a task is made again; 0 where there is no such task.
+/// Gives how often a failed try of this task is made again; 0 where there is no such task.
 #[tactic(auto, unfolding(bf_plan::specs::Plans::task_of))]
 fn retries_of(dag: &Dag, task: u32) -> u32
     ensures { result ≡ (task_of dag.now task).retries }
@@ -50,14 +50,15 @@ fn retries_of(dag: &Dag, task: u32) -> u32
     }
 }
 
-/// Whether the try numbered `attempt` of the instance that `name` is of is kept, and succeeded or was skipped.
+/// Answers whether the ledger has the try numbered `attempt` of this name's instance, and that one succeeded or was
+/// skipped.
 fn passed_at(tries: &Ledger, name: JobName, attempt: u32) -> bool
     ensures { result ≡ has_passed (FinMap.get tries.now (with_attempt name attempt)) }
 {
     has_passed_in(tries.get(JobName { attempt, ..name }))
 }
 
-/// Whether some kept try of the instance that `name` is of succeeded or was skipped.
+/// Answers whether the ledger has a try of this name's instance that succeeded or was skipped.
 fn some_passed_in(plan: &Plan, tries: &Ledger, name: JobName) -> bool
     ensures { result ≡ some_passed plan.now.dag (FinMap.get tries.now) name }
 {
@@ -66,8 +67,8 @@ fn some_passed_in(plan: &Plan, tries: &Ledger, name: JobName) -> bool
 }
 
 impl<'a> WithoutFailed<'a> {
-    /// The kept try of a name; None where there is none, or it failed and no kept try of its instance succeeded or
-    /// was skipped.
+    /// Gives the kept try of this name; None where the ledger has none, or has a failed one that is to be made again:
+    /// no try of its instance succeeded or was skipped.
     #[tactic(auto, unfolding(crate::specs::Retrying::without_failed))]
     pub(crate) fn entry(&self, name: JobName) -> Option<&'a Entry>
         ensures { option_copied result
@@ -87,7 +88,7 @@ impl KeptTries for WithoutFailed<'_> {
 
     ghost kept = { λ s. without_failed s.plan.now.dag (FinMap.get s.tries.now) };
 
-    /// The kept answer to the try of a name; None where the try isn't kept, or is a failed one that is made again.
+    /// Gives the kept answer to the try of this name; None where the try isn't kept, or failed and is to be made again.
     fn answer(
         &self,
         alloc: Global,

@@ -7,7 +7,7 @@ use bf_interval::{Interval, Runs};
 use bf_moment::{moment_bytes, moment_in};
 use jiff::Timestamp;
 
-/// The data interval of the run of a number, from 0; None where there is no such run.
+/// Gives the data interval of the run with this number, from 0; None where there is no such run.
 pub(crate) fn interval_of_run(runs: &Runs, run: u32) -> Option<&Interval>
     ensures run { option_copied result ≡ slice_get runs.now run }
     ensures shown { IfSome (option_copied result) IsShownInterval }
@@ -15,7 +15,7 @@ pub(crate) fn interval_of_run(runs: &Runs, run: u32) -> Option<&Interval>
     runs.intervals().get(run as usize)
 }
 
-/// Whether `text` is that of the run's start, as `2024-01-31T06:05:09Z`; false for None.
+/// Answers whether `text` spells the run's start, in the form `2024-01-31T06:05:09Z`; false for None.
 fn starts_at(run: Option<&Interval>, text: &str) -> bool
     requires { IfSome (option_copied run) IsShownInterval }
     ensures { IsTrue result ↔ StartsAt (option_copied run.entry) text.now }
@@ -26,7 +26,7 @@ fn starts_at(run: Option<&Interval>, text: &str) -> bool
     }
 }
 
-/// The number, from 0, of the run that starts at a moment; None where none does.
+/// Finds the run that starts at this moment, by its number from 0; None where none does.
 fn run_at(runs: &Runs, moment: Timestamp) -> Option<u32>
     ensures { IsFound (λ k. StartsOn (slice_get runs.now k) moment.nanosecond) result }
 {
@@ -40,7 +40,8 @@ fn run_at(runs: &Runs, moment: Timestamp) -> Option<u32>
     }
 }
 
-/// The number, from 0, of the run whose start has this text, as `2024-01-31T06:05:09Z`; None where none has it.
+/// Finds the run whose start `text` spells, in the form `2024-01-31T06:05:09Z`, by its number from 0; None where there
+/// is none.
 pub(crate) fn run_in(runs: &Runs, text: &str) -> Option<u32>
     ensures { IsFound (λ k. StartsAt (slice_get runs.now k) text.now) result }
 {

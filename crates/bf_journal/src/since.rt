@@ -11,8 +11,8 @@ use bf_value::{JobName, OutOfMemory};
 use bf_xcom::Given;
 use std::alloc::Global;
 
-/// The tries of a journal, all or those that aren't to be made again, and of every other name the try that was kept
-/// before.
+/// The tries kept of a journal, laid over those kept before it: `before` answers for the names that the journal
+/// doesn't. Where `retry_failed`, the journal's failed tries that are to be made again aren't kept (`WithoutFailed`).
 #[derive(Drop)]
 pub struct Since<'a, K> {
     pub plan: &'a Plan,
@@ -22,7 +22,8 @@ pub struct Since<'a, K> {
 }
 
 impl<K> Since<'_, K> {
-    /// What is kept of the journal's try of a name; None where it has none, or a failed one that is made again.
+    /// Gives what is kept of the journal's try of this name; None where it has none, or has a failed one that is to be
+    /// made again.
     fn entry(&self, name: JobName) -> Option<&Entry>
         ensures { option_copied result
             ≡ left_of self.now.retry_failed self.now.plan.now.dag (FinMap.get self.now.tries.now)
@@ -46,7 +47,7 @@ impl<K: KeptTries> KeptTries for Since<'_, K> {
     ghost kept = { λ s. since (left_of s.retry_failed s.plan.now.dag (FinMap.get s.tries.now))
         (K.kept s.before.now) };
 
-    /// The journal's answer to the try of a name, else the one that was kept before; None where the try is to be
+    /// Gives the journal's answer to the try of this name, or else the one kept before; None where the try is to be
     /// made.
     fn answer(
         &self,

@@ -12,15 +12,16 @@ use bf_try::Entry;
 use bf_value::JobName;
 use std::alloc::Global;
 
-/// The tries that whole lines tell, in order, and how many bytes stand behind the last line feed.
+/// The tries that a journal's whole lines record, in order, and how many bytes follow the last line feed.
 #[derive(Drop)]
 pub(crate) struct Told {
     pub tries: Vec<(JobName, Entry)>,
     pub torn: usize,
 }
 
-/// The tries that the lines after a head tell, in order, or `BadRecord` for the first line that tells of none. What
-/// follows the last line feed is no line.
+/// Reads the tries that the lines behind a journal's head record, in order. `BadRecord` for the first line that is no
+/// record, counted from the head as line 1; `OutOfMemory` at want of memory. Bytes after the last line feed are only
+/// counted.
 #[tactic(auto, using(crate::proofs::Passing::nothing_read, crate::proofs::Passing::more_read, crate::proofs::Passing::all_read))]
 pub(crate) fn tries_told_in(
     alloc: Global,

@@ -14,13 +14,14 @@ use bf_interval::Runs;
 use bf_plan::Plan;
 use bf_try::Entry;
 use bf_value::{JobName, OutOfMemory, Sequence, Xval, read_text};
-use bf_xcom::{Given, Outcome};
+use bf_xcom::{Given, Outcome, SharedValue};
 use std::alloc::Global;
 
-/// How many members a record has. What stands in the last is passed over.
+/// How many fields a record has. The last, its stamp, isn't read.
 const MEMBERS: usize = 9;
 
-/// The name of a try by the fields of its record; None where the first four name no run, task, map index and attempt.
+/// Reads a try's name from the fields of its record; None where the first four name no run, task, map index and try
+/// number.
 fn name_in(plan: &Plan, runs: &Runs, fields: &[Xval]) -> Option<JobName>
     ensures { IsFound (TellsName plan.now.dag runs.now fields.now) result }
 {
@@ -36,7 +37,7 @@ fn name_in(plan: &Plan, runs: &Runs, fields: &[Xval]) -> Option<JobName>
     })
 }
 
-/// How a try ended, by all fields of its record; None where they tell no outcome.
+/// Reads how a try ended from the fields of its record; None where they hold no outcome.
 fn outcome_of(alloc: Global, fields: &[Xval]) -> Result<Option<Outcome>, OutOfMemory>
     ensures { IfOk result (IsFound (TellsOutcome fields.now)) }
 {
@@ -44,12 +45,12 @@ fn outcome_of(alloc: Global, fields: &[Xval]) -> Result<Option<Outcome>, OutOfMe
         return Ok(None);
     };
     match optional_value_at(alloc, fields, 5)? {
-        Some(pushed) => Ok(outcome_in(word, pushed)),
+        Some(pushed) => Ok(outcome_in(word, SharedValue::new(alloc, pushed)?)),
         None => Ok(None),
     }
 }
 
-/// How a try ended and what it was given, by all fields of its record; None where they don't tell it.
+/// Reads how a try ended and what it was given from the fields of its record; None where they don't say so.
 fn entry_in(alloc: Global, fields: &[Xval]) -> Result<Option<Entry>, OutOfMemory>
     ensures { IfOk result (IsFound (TellsEntry fields.now)) }
 {
@@ -67,8 +68,8 @@ fn entry_in(alloc: Global, fields: &[Xval]) -> Result<Option<Entry>, OutOfMemory
     Ok(Some(Entry { given, outcome }))
 }
 
-/// The try that the fields of a record tell of; None where they aren't nine, or tell of no try of this plan and its
-/// runs.
+/// Reads the try that a record's fields are of; None where there aren't nine, or they are of no try of this plan and
+/// its runs.
 fn told_try_of(
     alloc: Global,
     plan: &Plan,
@@ -91,7 +92,7 @@ fn told_try_of(
     }
 }
 
-/// The try that the text of a record, JSON, tells of; None where it tells of no try of this plan and its runs.
+/// Reads the try that a record's JSON text is of; None where it is of no try of this plan and its runs.
 fn told_try_in_text(
     alloc: Global,
     plan: &Plan,
@@ -106,8 +107,8 @@ fn told_try_in_text(
     }
 }
 
-/// The try that a line of a journal, without its line feed, tells of; None where it tells of no try of this plan and
-/// its runs.
+/// Reads the try that a journal's line, without its line feed, is the record of; None where it is of no try of this
+/// plan and its runs.
 pub(crate) fn told_try_in(
     alloc: Global,
     plan: &Plan,

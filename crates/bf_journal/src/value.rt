@@ -8,14 +8,14 @@ use bf_value::{OutOfMemory, Text, Xval};
 use jiff::Timestamp;
 use std::alloc::Global;
 
-/// A text as a value.
+/// Makes a value of a text.
 pub(crate) fn text_value(alloc: Global, text: &str) -> Result<Xval, OutOfMemory>
     ensures { IfOk result (λ v. v ≡ TextValue text.now) }
 {
     Ok(Xval::Text(Text::copy_of(alloc, text)?))
 }
 
-/// The text of a moment, as `2024-01-31T06:05:09Z`, as a value.
+/// Makes a value of a moment's text, in the form `2024-01-31T06:05:09Z`.
 pub(crate) fn moment_value(alloc: Global, at: Timestamp) -> Result<Xval, OutOfMemory>
     requires { IsShown at.nanosecond }
     ensures { IfOk result (λ v. v ≡ TextValue (moment_text at.nanosecond)) }

@@ -6,8 +6,8 @@ use crate::cuttable::{Cuttable, try_cut};
 use crate::found::Found;
 use bf_device::send;
 
-/// Cuts the torn bytes that were `found` off the end of a journal, and writes its head where no line of it is whole.
-/// False where the device failed, which may leave a part of the head.
+/// Cuts the torn bytes that were `found` off a journal's end, writes the head where no line is whole, and answers true.
+/// False where the device failed, which may leave the torn bytes, or a part of the head.
 pub fn try_make_whole<D: Cuttable>(device: &mut D, head: &[u8], found: &Found) -> bool
     ensures whole { (held : List ℕ) → found.now.whole + found.now.torn ≡ length held
         → D.written device.old ≡ Some held

@@ -4,8 +4,8 @@ use bf_try::{Done, RunnerFault, TaskRunner, Ticket};
 use bf_value::OutOfMemory;
 use std::alloc::Global;
 
-/// Answers a try of which one of its name, given the same, is kept, so that it ends as that did, and hands every
-/// other on to a runner. Where memory is wanting for a kept answer, the ticket comes back.
+/// A runner that answers kept tries itself: a kept try that is given the same again ends as it did, and `runner` makes
+/// every other.
 #[derive(Drop)]
 pub struct Keeping<'a, K, R> {
     pub alloc: Global,
@@ -22,8 +22,8 @@ impl<'a, K: KeptTries, R: TaskRunner> TaskRunner for Keeping<'a, K, R> {
     ghost may_give_up = { λ s n g. MayGiveUpAnew (K.kept s.kept.now)
         (R.may_give_up s.runner.now) n g };
 
-    /// Answers the try from `kept` where it is kept there and was given the same, and else has the runner make it.
-    /// Where there is no answer the ticket comes back.
+    /// Answers the try from `kept` where it is kept there and was given the same, else has the runner make it. `Err`
+    /// hands the ticket back: `GaveUp` where the runner gave the try up, `OutOfMemory` at want of memory.
     fn run(&self, ticket: Ticket) -> Result<Done, (Ticket, RunnerFault)> {
         match self.kept.answer(self.alloc, ticket.name(), ticket.given()) {
             Ok(Some(raw)) => Ok(ticket.answer(raw)),

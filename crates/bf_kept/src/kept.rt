@@ -4,7 +4,7 @@ use bf_value::{JobName, OutOfMemory};
 use bf_xcom::Given;
 use std::alloc::Global;
 
-/// Tries that are kept. Its relation says which, with what each was given and how it ended.
+/// A store of kept tries. The relation `kept` says which these are, with what each was given and how it ended.
 pub trait KeptTries {
     ghost use Rattle.std.specs.Prelude.{Option, IfOk};
     ghost use Rattle.bf_value.specs.declared.name.JobName.{JobName};
@@ -14,7 +14,7 @@ pub trait KeptTries {
     /// What is kept of the try of a name.
     ghost kept: { Self → JobName → Option Entry };
 
-    /// An answer by which the try `name`, given this, ends as is kept of it; None where no try of the name is kept
+    /// An answer by which the try `name`, given `given`, ends as is kept of it; None where no try of this name is kept
     /// that was given the same.
     fn answer(
         &self,
@@ -25,7 +25,7 @@ pub trait KeptTries {
         ensures { IfOk result (IsAnsweredBy (kept self.now) name given.now) };
 }
 
-/// Nothing is kept.
+/// A store in which no try is kept.
 #[derive(Clone, Copy, Debug)]
 pub struct NothingKept;
 
@@ -34,7 +34,7 @@ impl KeptTries for NothingKept {
 
     ghost kept = { λ _. nothing };
 
-    /// None, for each try.
+    /// Always None: no try is kept.
     fn answer(
         &self,
         _alloc: Global,

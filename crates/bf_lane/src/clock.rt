@@ -6,7 +6,8 @@ use std::sync::Wait;
 use std::thread::Parker;
 use std::time::Duration;
 
-/// A clock. Moments are whole seconds since 1970-01-01T00:00:00Z. Contracts see its last answer, and claim nothing else of time.
+/// A clock. Moments are whole seconds since 1970-01-01T00:00:00Z. Contracts see its last answer, and claim nothing else
+/// of time.
 pub trait TimeSource {
     ghost use Rattle.std.specs.Prelude.{◌≡◌, ℤ};
 
@@ -29,7 +30,7 @@ pub struct MachineClock<'c, C> {
 }
 
 impl<'c, C> MachineClock<'c, C> {
-    /// The machine's clock, which is borrowed. No clause says what its last answer is before the first.
+    /// A clock that reads the machine's, which is borrowed. No clause says what its last answer is before the first.
     pub fn new(clock: &'c C) -> MachineClock<'c, C> {
         MachineClock { clock, told: 0 }
     }
@@ -38,7 +39,7 @@ impl<'c, C> MachineClock<'c, C> {
 impl<'c, C: std::time::Clock> TimeSource for MachineClock<'c, C> {
     ghost last = { λ clock. clock.told };
 
-    /// The machine's time, in whole seconds since 1970; where it can't be read what was told before, at first 0.
+    /// The machine's time, in whole seconds since 1970; where it can't be read, what was told before, at first 0.
     fn now(&mut self) -> i64 {
         if let Ok(passed) = self.clock.since_1970() {
             self.told = i64::try_from(passed.as_secs()).unwrap_or(i64::MAX);
@@ -46,7 +47,8 @@ impl<'c, C: std::time::Clock> TimeSource for MachineClock<'c, C> {
         self.told
     }
 
-    /// Sleeps by the machine's clock, or where that can't be read as if it were the moment that was told last.
+    /// Sleeps until `sleep` is woken or the machine's clock comes to `until`, in seconds since 1970. Where the clock
+    /// can't be read, it is taken to show what was told last.
     fn pause<W: Wait>(&mut self, rt: &W, sleep: &Parker, until: i64) {
         let until = Duration::from_secs(u64::try_from(until).unwrap_or(0));
         let told = Duration::from_secs(u64::try_from(self.told).unwrap_or(0));
@@ -91,7 +93,7 @@ impl TimeSource for Jump {
         self.at
     }
 
-    /// Sleeps for no time: the clock shows `until` from now on.
+    /// Doesn't sleep: the clock shows `until`, in seconds since 1970, from now on.
     fn pause<W: Wait>(&mut self, _rt: &W, _sleep: &Parker, until: i64)
         ensures { self.new ≡ until }
     {

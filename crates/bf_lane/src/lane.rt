@@ -51,7 +51,8 @@ impl<'s, K: Service> Model for Lane<'s, K> {
         l.is_busy };
 }
 
-/// The queues of a lane, each of capacity 2, and a seat for each of the four kinds of step.
+/// The two queues of a lane, each of capacity 2, and the seats by which jobs are put and taken, and results sent and
+/// gathered.
 pub fn new_queues_and_seats<K: Service>(alloc: Global) -> Result<(Queues<K>, Seats<K>), AllocError>
     ensures { IfOk result (λ q. IsFresh q.0 q.1) }
 {
@@ -91,8 +92,8 @@ fn drain<W: Wait, T: Drop>(rt: &W, line: &RuledQueue<T>, seat: &mut QueuePass<T>
 }
 
 impl<'s, K: Service + Send + Sync + 's> Lane<'s, K> {
-    /// Starts a thread, the worker of a lane, which answers each try by the runner and wakes `answered` behind each
-    /// answer. `NotStarted` where the thread can't be started.
+    /// Starts the worker of a lane in a thread of its own. It answers each try by the runner, and wakes `answered`
+    /// behind each answer. `NotStarted` where the thread can't be started.
     pub fn start<E, W: Threads + Wait + Sync, R: TaskRunner + Sync>(
         scope: &Scope<'s, E>,
         rt: &'s W,
@@ -152,14 +153,14 @@ impl<'s, K: Service + Send + Sync + 's> Lane<'s, K> {
         }
     }
 
-    /// Whether an answer is awaited.
+    /// Whether an answer of the worker is awaited.
     pub fn is_busy(&self) -> bool
         ensures { result ≡ awaits self.now }
     {
         self.is_busy
     }
 
-    /// Submits a try to the worker, which then has one to answer.
+    /// Submits a try to the worker, from which no answer is awaited yet.
     pub fn submit<W: Wait>(&mut self, rt: &W, ticket: Ticket)
         requires { awaits self.old ≡ false }
         ensures { self.new ≡ scheduled (self.old.submitted ++ TheVariants.Run ticket ∷ [])
@@ -170,7 +171,7 @@ impl<'s, K: Service + Send + Sync + 's> Lane<'s, K> {
         self.is_busy = true;
     }
 
-    /// The answer of the worker; None where none is awaited, or it isn't there yet. Never waits.
+    /// Takes the worker's answer; None where none is awaited, or it isn't there yet. Never waits.
     pub fn try_gather(&mut self) -> Option<Answer>
         ensures some { IfSome result (λ a. self.new
             ≡ scheduled self.old.submitted (self.old.gathered ++ a ∷ [])) }

@@ -54,7 +54,7 @@ impl<'s, K: Service + Send + Sync + 's> Lanes<'s, K> {
         }
     }
 
-    /// Adds a lane. Where memory is wanting, its worker is stopped, and has ended.
+    /// Adds a lane. `Err`, at want of memory, adds nothing, and the lane's worker is stopped and has ended.
     pub fn push<W: Wait + Threads>(&mut self, lane: Lane<'s, K>, rt: &W) -> Result<(), AllocError>
         ensures ok { OnOk result (self.new ≡ self.old ++ lane.entry ∷ []) }
         ensures err { OnErr result (self.new ≡ self.old) }
@@ -90,7 +90,7 @@ impl<'s, K: Service + Send + Sync + 's> Lanes<'s, K> {
         lane.submit(rt, ticket);
     }
 
-    /// The answer that is in the lane at the place `at`, from 0; None where none is. Never waits.
+    /// Takes the answer that is in the lane at the place `at`, from 0; None where none is. Never waits.
     fn try_gather_from(&mut self, at: usize) -> Option<Answer>
         requires { at < length self.old }
         ensures some { IfSome result (λ a. IsGathered self.old self.new at a) }
@@ -101,8 +101,8 @@ impl<'s, K: Service + Send + Sync + 's> Lanes<'s, K> {
         lane.try_gather()
     }
 
-    /// The answer that is in the first lane that has one, and the place of that lane, from 0; None where no lane has
-    /// one. Never waits.
+    /// Takes the answer that is in the first lane that has one, and gives the place of that lane, from 0, with it; None
+    /// where no lane has one. Never waits.
     fn try_gather_any(&mut self) -> Option<(usize, Answer)>
         ensures some { IfSome result (λ r. IsGathered self.old self.new r.0 r.1) }
         ensures allowed { IfSome result (λ r. IsAllowedBy K.answers K.gives_up r.1) }
@@ -116,7 +116,7 @@ impl<'s, K: Service + Send + Sync + 's> Lanes<'s, K> {
         None
     }
 
-    /// Waits for an answer, and gives the place of its lane, from 0, and the answer.
+    /// Waits for an answer, and gives it with the place of its lane, from 0.
     pub fn gather<W: Wait>(&mut self, rt: &W) -> (usize, Answer)
         ensures gathered { IsGathered self.old self.new result.0 result.1 }
         ensures allowed { IsAllowedBy K.answers K.gives_up result.1 }
@@ -130,8 +130,8 @@ impl<'s, K: Service + Send + Sync + 's> Lanes<'s, K> {
         unreachable!()
     }
 
-    /// Waits for an answer until a moment, in seconds since 1970, and gives the place of its lane, from 0, and the
-    /// answer. None only where the clock's last answer isn't before that moment.
+    /// Waits for an answer until `moment`, in seconds since 1970, and gives it with the place of its lane, from 0. None
+    /// only where the clock's last answer isn't before that moment.
     pub fn gather_until<W: Wait, C: TimeSource>(
         &mut self,
         rt: &W,

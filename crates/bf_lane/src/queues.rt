@@ -6,7 +6,7 @@ use crate::service::Service;
 use std::marker::PhantomData;
 use std::thread::{Parker, Promise};
 
-/// The two queues of a lane.
+/// The two queues of a lane, and what its worker sleeps on.
 #[derive(Drop)]
 pub struct Queues<K: Service> {
     pub jobs: RuledQueue<Job>,
@@ -15,7 +15,7 @@ pub struct Queues<K: Service> {
     pub called: Parker,
 }
 
-/// A seat for each kind of step.
+/// The passes to the queues of a lane: to put and take jobs, and to send and gather results.
 #[derive(Drop)]
 pub struct Seats<K: Service> {
     pub puts: QueuePass<Job>,
@@ -24,7 +24,7 @@ pub struct Seats<K: Service> {
     pub gathers: QueuePass<Reply<K>>,
 }
 
-/// That a worker serves these queues.
+/// The promise of a worker that it serves these queues.
 #[derive(Drop)]
 pub struct Serves<'s, K: Service> {
     pub queues: &'s Queues<K>,

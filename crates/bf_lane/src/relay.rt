@@ -3,7 +3,7 @@ use crossbeam_queue::protocol::{Join, Lesson, Outcome, Protocol, Split};
 use crossbeam_queue::{Pass, RuledArrayQueue};
 use std::collections::LinkedList;
 
-/// What a pass may do, what it has put in and what it has taken out. No value of it is made.
+/// What a pass may do, and what it has put in and taken out. It is for contracts alone: no value of it is made.
 pub struct Log<T> {
     pub puts: bool,
     pub takes: bool,
@@ -11,7 +11,7 @@ pub struct Log<T> {
     pub taken: LinkedList<T>,
 }
 
-/// The rule.
+/// The rule of a queue: what was put in is what was taken out, followed by what the queue holds.
 pub struct InOrder;
 
 impl<T> Protocol<T, Log<T>> for InOrder {
@@ -23,7 +23,7 @@ impl<T> Protocol<T, Log<T>> for InOrder {
     ghost first = { log true true [] [] };
 }
 
-/// One pass puts, and a new one takes.
+/// Splits a pass into one that puts, and a new one that takes.
 pub struct Apart;
 
 impl<T> Split<Log<T>> for Apart {
@@ -35,7 +35,7 @@ impl<T> Split<Log<T>> for Apart {
     ghost right = { λ v. log false true [] v.taken };
 }
 
-/// The pass that puts takes in the one that takes.
+/// Joins the pass that takes to the one that puts, which then does both.
 pub struct Together;
 
 impl<T> Join<Log<T>> for Together {
@@ -73,8 +73,8 @@ impl<T> Lesson<T, Log<T>> for Taken {
     ghost fact = { λ v items. v.put ≡ v.taken ++ items };
 }
 
-/// A queue under this rule.
+/// A queue under the rule `InOrder`.
 pub type RuledQueue<T> = RuledArrayQueue<T, Log<T>, InOrder>;
 
-/// A pass of such a queue.
+/// A pass to a queue under the rule `InOrder`.
 pub type QueuePass<T> = Pass<T, Log<T>>;

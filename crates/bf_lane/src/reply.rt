@@ -29,7 +29,7 @@ impl<K: Service> Model for Reply<K> {
 }
 
 impl<K: Service> Reply<K> {
-    /// A reply with this answer, which has to be allowed.
+    /// A reply with this answer, which the lane's service must allow.
     pub fn new(answer: Answer) -> Reply<K>
         requires { IsAllowedBy K.answers K.gives_up answer }
         ensures { result ≡ answer }

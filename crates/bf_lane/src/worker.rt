@@ -16,7 +16,7 @@ use bf_try::{TaskRunner, Ticket};
 use std::sync::Wait;
 use std::thread::{self, Parker};
 
-/// Puts a value into the queue `line` by the pass `seat`, and waits while the queue is full.
+/// Puts a value into the queue `line` by the pass `seat`; waits while the queue is full.
 pub fn wait_and_put<W: Wait, T>(rt: &W, line: &RuledQueue<T>, seat: &mut QueuePass<T>, value: T)
     requires seat { IsPassOf line.now seat.old }
     requires puts { (view seat.old).puts ≡ true }
@@ -37,7 +37,7 @@ pub fn wait_and_put<W: Wait, T>(rt: &W, line: &RuledQueue<T>, seat: &mut QueuePa
     unreachable!()
 }
 
-/// Takes a value out of the queue `line` by the pass `seat`, and sleeps on `called` until there is one.
+/// Takes a value out of the queue `line` by the pass `seat`; sleeps on `called` until there is one.
 pub fn wait_and_take<W: Wait, T>(
     rt: &W,
     line: &RuledQueue<T>,
@@ -59,7 +59,7 @@ pub fn wait_and_take<W: Wait, T>(
     unreachable!()
 }
 
-/// What the runner answers to a ticket, or the ticket with the fault for which there is no answer.
+/// The runner's answer to a ticket; where it gives none, the ticket with the runner's fault.
 fn answer_to<K: Service, R: TaskRunner>(runner: &R, ticket: Ticket) -> Reply<K>
     requires { Fulfils (R.may_answer runner.now) (R.may_give_up runner.now) K.answers K.gives_up }
     ensures ticket { asked_by result ≡ ticket }

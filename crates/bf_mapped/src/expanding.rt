@@ -7,7 +7,7 @@ use crate::source::{Items, SourceValues};
 use bf_value::{OutOfMemory, Sequence, Xval};
 use std::alloc::Global;
 
-/// The values that instances pushed, in order; one that pushed nothing is left out.
+/// The pushed values, in order; an instance that pushed nothing is left out.
 fn pushed_items(alloc: Global, pushed: Sequence<Option<Xval>>) -> Result<Vec<Xval>, OutOfMemory>
     ensures { IfOk result (λ items. items.items ≡ filter_map (λ v. v) pushed) }
 {
@@ -20,8 +20,8 @@ fn pushed_items(alloc: Global, pushed: Sequence<Option<Xval>>) -> Result<Vec<Xva
     Ok(items)
 }
 
-/// The items that a source gives: of an unmapped one those of the list that it pushed, of an expanded one what its
-/// instances pushed, in index order, where those that pushed nothing are left out. `Missing` where the source has
+/// The items that a source gives to an expansion: those of the list that an unmapped source pushed, or what the
+/// instances of an expanded one pushed, by map index, without those that pushed nothing. `Missing` where the source has
 /// nothing, or is unmapped and pushed no list.
 pub fn items(alloc: Global, source: SourceValues) -> Result<Items, OutOfMemory>
     ensures { IfOk result (λ items. items ≡ items_of source) }

@@ -8,8 +8,8 @@ use bf_moment::{Moment, moment_bytes};
 use bf_value::OutOfMemory;
 use std::alloc::Global;
 
-/// What stands in two digits above a column, in a group that stands above that: a year in its decade, a month in its
-/// year, and so on.
+/// What the two digits above a column tell, within the group that is named above them: the year of a decade, the month
+/// of a year, the day of a month, the hour of a day, or the minute of an hour.
 #[derive(Clone, Copy, Debug, PartialEq, Eq)]
 pub enum Scale {
     Years,
@@ -19,15 +19,15 @@ pub enum Scale {
     Minutes,
 }
 
-/// Whether `second` is at least `seconds` after `first`.
-fn are_two_apart(first: Moment, second: Moment, seconds: u32) -> bool
+/// Whether `second` is at least `seconds` seconds after `first`.
+fn is_later_by(first: Moment, second: Moment, seconds: u32) -> bool
     ensures { result ≡ is_behind (seconds_of seconds) first.at.nanosecond second.at.nanosecond }
 {
     let least = i128::from(seconds) * 1_000_000_000;
     second.at.as_nanosecond() >= first.at.as_nanosecond() + least
 }
 
-/// Whether each of these moments is at least `seconds` after the one before it.
+/// Whether each of these moments is at least `seconds` seconds after the one before it; true for fewer than two.
 fn are_apart(starts: &[Moment], seconds: u32) -> bool
     ensures { result ≡ are_apart_in (seconds_of seconds)
         (map (λ start. start.at.nanosecond) starts.now) }
@@ -37,7 +37,7 @@ fn are_apart(starts: &[Moment], seconds: u32) -> bool
     };
     let mut before = *first;
     for start in rest {
-        if !are_two_apart(before, *start, seconds) {
+        if !is_later_by(before, *start, seconds) {
             return false;
         }
         before = *start;
@@ -46,7 +46,8 @@ fn are_apart(starts: &[Moment], seconds: u32) -> bool
 }
 
 impl Scale {
-    /// The scale for columns that start at these moments, by the least time between two; days for fewer than two.
+    /// The scale for columns that start at these moments, by the least time between neighbours: years from 300 days,
+    /// months from 28 days, days from 6 hours, hours from 15 minutes, else minutes. Days for fewer than two columns.
     pub fn of(starts: &[Moment]) -> Scale
         ensures { result ≡ scale_of (map (λ start. start.at.nanosecond) starts.now) }
     {
@@ -69,8 +70,8 @@ impl Scale {
         }
     }
 
-    /// How many bytes at the front of a moment's text (`2024-01-31T..`) tell the group of a column, as 7 for its
-    /// month.
+    /// How many bytes at the front of a moment's text, such as `2024-01-31T06:00:00Z`, name the group of a column: 7
+    /// for days, whose group is the month.
     pub fn group_size(self) -> usize
         ensures { result ≡ group_size_of self }
     {
@@ -83,7 +84,7 @@ impl Scale {
         }
     }
 
-    /// Where in a moment's text (`2024-01-31T..`) the two digits of a column begin, from 0, as 8 for the day.
+    /// Where in a moment's text, such as `2024-01-31T06:00:00Z`, the two digits of a column begin, from 0: 8 for days.
     pub fn unit_place(self) -> usize
         ensures { result ≡ unit_place_of self }
     {
@@ -96,8 +97,8 @@ impl Scale {
         }
     }
 
-    /// Adds the label of a group, whose bytes in a moment's text are `group`: these, and `0s` behind them for a
-    /// decade.
+    /// Adds the label of a group: `group`, as it stands at the front of a moment's text, and for a decade `0s` after
+    /// it, such as `2020s`.
     pub fn push_label(self, label: &mut Vec<u8>, group: &[u8]) -> Result<(), OutOfMemory>
         ensures { OnOk result (label.new.items ≡ label.old.items ++ group_label self group.now) }
     {
@@ -109,7 +110,8 @@ impl Scale {
     }
 }
 
-/// A label, or its last three bytes, or nothing, so that at least one of `room` columns stays free behind it.
+/// The label, or its last three bytes where it has more than five, or nothing: the first of these that leaves one of
+/// `room` columns free after it.
 pub fn fitted(label: &[u8], room: usize) -> &[u8]
     ensures { result.now ≡ fitted_of room label.now }
 {
@@ -122,7 +124,7 @@ pub fn fitted(label: &[u8], room: usize) -> &[u8]
     &[]
 }
 
-/// How many of the first moments in `starts` are of this group, up to the first that isn't.
+/// How many moments at the front of `starts` are in this group, up to the first that isn't.
 fn count_same_at_front(scale: Scale, group: &[u8], starts: &[Moment]) -> usize
     ensures count { result ≡ same_first group.now
         (groups_of scale (map (λ start. start.at.nanosecond) starts.now)) }
@@ -136,7 +138,7 @@ fn count_same_at_front(scale: Scale, group: &[u8], starts: &[Moment]) -> usize
     starts.len()
 }
 
-/// Adds the label of a group, cut to `room` columns, and spaces behind it up to `count` columns.
+/// Adds the label of a group, cut to fit into `room` columns, and spaces after it up to `count` columns.
 fn push_group(
     alloc: Global,
     text: &mut Vec<u8>,
@@ -163,7 +165,7 @@ pub fn push_spaces(text: &mut Vec<u8>, count: usize) -> Result<(), OutOfMemory>
     Ok(())
 }
 
-/// Adds a text and spaces behind it, up to `width` bytes; a longer text isn't cut.
+/// Adds `shown` and spaces after it, up to `width` bytes; a longer text isn't cut.
 pub fn push_left_aligned(text: &mut Vec<u8>, width: usize, shown: &[u8]) -> Result<(), OutOfMemory>
     ensures { OnOk result (text.new.items ≡ text.old.items ++ left width shown.now) }
 {
@@ -171,7 +173,7 @@ pub fn push_left_aligned(text: &mut Vec<u8>, width: usize, shown: &[u8]) -> Resu
     push_spaces(text, width.saturating_sub(shown.len()))
 }
 
-/// Adds spaces and a text behind them, `width` bytes in all; a longer text isn't cut.
+/// Adds `shown` with spaces before it, up to `width` bytes; a longer text isn't cut.
 pub fn push_right_aligned(text: &mut Vec<u8>, width: usize, shown: &[u8]) -> Result<(), OutOfMemory>
     ensures { OnOk result (text.new.items ≡ text.old.items ++ right width shown.now) }
 {
@@ -179,7 +181,8 @@ pub fn push_right_aligned(text: &mut Vec<u8>, width: usize, shown: &[u8]) -> Res
     push(text, shown)
 }
 
-/// How many columns the label of a group of `count` may take; at least 99 for the last, where `further` is empty.
+/// How many columns the label of a group of `count` columns may take: `count`, or at least 99 for the last group, which
+/// no column in `further` follows.
 fn label_room(count: usize, further: &[Moment]) -> usize
     ensures { result ≡ (if length further.now == 0 then max count 99 else count) }
 {
@@ -190,7 +193,7 @@ fn label_room(count: usize, further: &[Moment]) -> usize
     }
 }
 
-/// Adds the labels of the groups above the columns that start at these moments, each at its group's first column.
+/// Adds the labels of the groups that these columns, by their starts, are in, each above its group's first column.
 pub fn push_groups(
     alloc: Global,
     text: &mut Vec<u8>,
@@ -218,7 +221,7 @@ pub fn push_groups(
     Ok(())
 }
 
-/// Adds for each column one digit of its moment's text, the byte at `place`, from 0.
+/// Adds for each column one character of its start's text, such as `2024-01-31T06:00:00Z`: the one at `place`, from 0.
 pub fn push_digits(text: &mut Vec<u8>, place: usize, starts: &[Moment]) -> Result<(), OutOfMemory>
     requires { place < 20 }
     ensures { OnOk result (text.new.items ≡ text.old.items

@@ -8,12 +8,12 @@ use bf_report::RunReport;
 use bf_value::OutOfMemory;
 use std::alloc::Global;
 
-/// What a task in a run came to, from the least bad to the worst.
+/// What became of a task in a run or in several, from the least bad to the worst.
 #[derive(Clone, Copy, Debug, PartialEq, Eq)]
 pub enum Mark {
     Skipped,
     Success,
-    /// A success behind failed tries.
+    /// A success after failed tries.
     Retried,
     NoStatus,
     UpstreamFailed,
@@ -21,7 +21,8 @@ pub enum Mark {
 }
 
 impl Mark {
-    /// The mark of a tally: the worst state that is in it; skipped for one of nothing.
+    /// The mark for the worst state in a tally; `Skipped` for the tally of nothing, `Retried` for a success where
+    /// something took more than one try.
     pub fn of(tally: Tally) -> Mark
         ensures { result ≡ mark_of tally }
     {
@@ -44,7 +45,7 @@ impl Mark {
         }
     }
 
-    /// How bad a mark is, from 0 for skipped to 5 for failed.
+    /// How bad a mark is, from 0 for `Skipped` to 5 for `Failed`.
     pub fn severity(self) -> u8
         ensures { result ≡ severity self }
     {
@@ -69,7 +70,7 @@ impl Mark {
         }
     }
 
-    /// The character that a grid shows for a mark.
+    /// The character that a grid shows for this mark.
     pub fn letter(self) -> &'static str
         ensures { result.now ≡ mark_letter self }
     {
@@ -83,7 +84,7 @@ impl Mark {
         }
     }
 
-    /// The terminal code of a mark's colour, as `32`: a foreground, for the two worst on a background.
+    /// The terminal code of this mark's colour, such as `32` for green; for the two worst marks with a background.
     pub fn color(self) -> &'static str
         ensures { result.now ≡ color_code self }
     {
@@ -97,9 +98,10 @@ impl Mark {
     }
 }
 
+/// The escape sequence by which a terminal ends a colour.
 const COLOR_END: &str = "\x1b[0m";
 
-/// Adds the escape sequence by which a terminal begins a colour.
+/// Adds the escape sequence by which a terminal begins the colour of this code.
 fn push_color_start(text: &mut Vec<u8>, code: &str) -> Result<(), OutOfMemory>
     ensures { OnOk result (text.new.items ≡ text.old.items ++ color_start code.now) }
 {
@@ -108,7 +110,7 @@ fn push_color_start(text: &mut Vec<u8>, code: &str) -> Result<(), OutOfMemory>
     push(text, b"m")
 }
 
-/// Adds a text, in the colour of this terminal code where `colored`, and plain where not.
+/// Adds `shown`, in the colour of this terminal code where `colored`, else plain.
 pub fn push_painted(
     text: &mut Vec<u8>,
     colored: bool,
@@ -125,8 +127,8 @@ pub fn push_painted(
     push(text, COLOR_END.as_bytes())
 }
 
-/// Adds the escape sequences that end the colour of the mark `before`, None at the front, and begin that of `mark`;
-/// nothing where both are the same.
+/// Adds the escape sequences that end the colour of `before`, None at the front, and begin that of `mark`; adds nothing
+/// where both marks are the same.
 fn push_color_change(
     text: &mut Vec<u8>,
     before: Option<Mark>,
@@ -143,7 +145,7 @@ fn push_color_change(
     push_color_start(text, mark.color())
 }
 
-/// Adds the letter of each mark in its colour. The escape sequences stand once round each stretch of equal marks.
+/// Adds the letter of each mark in its colour. Equal marks in a row share one pair of escape sequences.
 fn push_colored_marks(text: &mut Vec<u8>, marks: &[Mark]) -> Result<(), OutOfMemory>
     ensures { OnOk result (text.new.items ≡ text.old.items ++ colored_marks None marks.now) }
 {
@@ -159,7 +161,7 @@ fn push_colored_marks(text: &mut Vec<u8>, marks: &[Mark]) -> Result<(), OutOfMem
     Ok(())
 }
 
-/// Adds the letter of each mark, in its colour where `colored`, and plain where not.
+/// Adds the letter of each mark, in its colour where `colored`, else plain.
 pub fn push_marks(text: &mut Vec<u8>, colored: bool, marks: &[Mark]) -> Result<(), OutOfMemory>
     ensures { OnOk result (text.new.items ≡ text.old.items ++ marks_text colored marks.now) }
 {
@@ -172,8 +174,8 @@ pub fn push_marks(text: &mut Vec<u8>, colored: bool, marks: &[Mark]) -> Result<(
     Ok(())
 }
 
-/// The worst mark of a task in these runs; skipped where there are no runs. A run without such a task counts as
-/// no_status.
+/// The worst mark of task number `task` in these runs; `Skipped` where there are no runs. In a run without such a task
+/// it is `NoStatus`.
 pub fn mark_in(alloc: Global, runs: &[&RunReport], task: u32) -> Result<Mark, OutOfMemory>
     ensures { IfOk result (λ mark. mark ≡ column_mark task (map (λ run. run.now) runs.now)) }
 {

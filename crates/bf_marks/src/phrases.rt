@@ -11,7 +11,7 @@ use bf_value::{OutOfMemory, Text};
 use jiff::Timestamp;
 use std::alloc::Global;
 
-/// Adds bytes.
+/// Adds `bytes` to `text`.
 pub fn push(text: &mut Vec<u8>, bytes: &[u8]) -> Result<(), OutOfMemory>
     ensures { OnOk result (text.new.items ≡ text.old.items ++ bytes.now) }
 {
@@ -19,7 +19,7 @@ pub fn push(text: &mut Vec<u8>, bytes: &[u8]) -> Result<(), OutOfMemory>
     Ok(())
 }
 
-/// Adds a number, as 1,234: commas before each three digits.
+/// Adds a number in decimal, with a comma before each three digits, such as `1,234`.
 pub fn push_number(alloc: Global, text: &mut Vec<u8>, number: u64) -> Result<(), OutOfMemory>
     ensures { OnOk result (text.new.items ≡ text.old.items ++ number_text number) }
 {
@@ -28,7 +28,7 @@ pub fn push_number(alloc: Global, text: &mut Vec<u8>, number: u64) -> Result<(),
     push(text, shown.as_bytes())
 }
 
-/// Adds a number and the noun, with an s unless the number is 1, as `1 run` or `2 runs`.
+/// Adds a number and a noun, which ends in `s` unless the number is 1, such as `1 run` or `2 runs`.
 pub fn push_counted_noun(
     alloc: Global,
     text: &mut Vec<u8>,
@@ -42,7 +42,8 @@ pub fn push_counted_noun(
     push(text, shown.as_bytes())
 }
 
-/// The text of a moment, whose time is left out where it is midnight in UTC, as `2024-01-25`.
+/// The date of `moment`, such as `2024-01-25`, where its time is midnight in UTC, else all of `moment`. It is written
+/// as `2024-01-25T06:00:00Z`.
 fn short_moment(moment: &[u8]) -> &[u8]
     requires long { 10 ≤ length moment.now }
     requires ascii { IsAscii moment.now }
@@ -55,7 +56,8 @@ fn short_moment(moment: &[u8]) -> &[u8]
     moment
 }
 
-/// Adds a moment, as `2024-01-25T06:00:00Z`, or `2024-01-25` at midnight in UTC.
+/// Adds a moment in UTC, such as `2024-01-25T06:00:00Z`; just the date, such as `2024-01-25`, where its time is
+/// midnight.
 pub fn push_moment(text: &mut Vec<u8>, moment: Timestamp) -> Result<(), OutOfMemory>
     requires { IsShown moment.nanosecond }
     ensures { OnOk result (text.new.items ≡ text.old.items ++ short_moment_of moment.nanosecond) }
@@ -63,7 +65,8 @@ pub fn push_moment(text: &mut Vec<u8>, moment: Timestamp) -> Result<(), OutOfMem
     push(text, short_moment(&moment_bytes(moment)))
 }
 
-/// The text of a moment, as `2024-01-25T06:00:00Z`, or `2024-01-25` at midnight in UTC.
+/// The text of a moment in UTC, such as `2024-01-25T06:00:00Z`; just the date, such as `2024-01-25`, where its time is
+/// midnight.
 fn short_moment_text(alloc: Global, moment: Moment) -> Result<Text, OutOfMemory>
     ensures { IfOk result (λ name. name ≡ short_moment_of moment.at.nanosecond) }
 {
@@ -74,7 +77,8 @@ fn short_moment_text(alloc: Global, moment: Moment) -> Result<Text, OutOfMemory>
     Text::copy_of(alloc, text)
 }
 
-/// The text of each moment, as `2024-01-25T06:00:00Z`, or `2024-01-25` at midnight in UTC.
+/// The text of each of these moments in UTC, in order, such as `2024-01-25T06:00:00Z`; just the date where its time is
+/// midnight.
 fn short_moment_texts(alloc: Global, moments: &[Moment]) -> Result<Vec<Text>, OutOfMemory>
     ensures { IfOk result (λ names. names.items ≡ short_moments moments.now) }
 {
@@ -85,7 +89,8 @@ fn short_moment_texts(alloc: Global, moments: &[Moment]) -> Result<Vec<Text>, Ou
     Ok(names)
 }
 
-/// Adds moments, as `2024-01-25, 2024-01-31 and 2024-02-05`; of more than four three, and how many more there are.
+/// Adds a list of moments, such as `2024-01-25, 2024-01-31 and 2024-02-05`; of more than four, the first three and how
+/// many more there are.
 pub fn push_listed_moments(
     alloc: Global,
     text: &mut Vec<u8>,

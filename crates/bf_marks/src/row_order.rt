@@ -10,7 +10,7 @@ use bf_plan::Dag;
 use bf_value::OutOfMemory;
 use std::alloc::Global;
 
-/// Whether a task has no upstreams.
+/// Whether task number `task` has no upstreams.
 fn has_no_upstreams(dag: &Dag, task: u32) -> bool
     requires { task < length dag.now.tasks }
     ensures { result ≡ has_no_upstreams_in dag.now task }
@@ -19,13 +19,13 @@ fn has_no_upstreams(dag: &Dag, task: u32) -> bool
 }
 
 /// Whether `task` is one of these upstreams.
-fn waits_for(upstreams: &[u32], task: u32) -> bool
+fn is_among(upstreams: &[u32], task: u32) -> bool
     ensures { result ≡ list_any (λ upstream. upstream == task) upstreams.now }
 {
     upstreams.iter().any(|upstream| *upstream == task)
 }
 
-/// Whether a task is already in the order of rows; false where there is no such task.
+/// Whether the order of rows already has task number `task`, by its flag in `standing`; false where it has no flag.
 fn stands_in(standing: &[bool], task: u32) -> bool
     ensures { result ≡ stands standing.now task }
 {
@@ -35,7 +35,7 @@ fn stands_in(standing: &[bool], task: u32) -> bool
     }
 }
 
-/// Marks a task as in the order of rows; does nothing where there is no such task.
+/// Flags task number `task` in `standing` as one that the order of rows has; does nothing where it has no flag.
 fn mark_standing(standing: &mut Vec<bool>, task: u32)
     ensures { standing.new.items ≡ slice_set standing.old.items task true }
 {
@@ -44,7 +44,7 @@ fn mark_standing(standing: &mut Vec<bool>, task: u32)
     }
 }
 
-/// Whether each of these upstreams is already in the order of rows.
+/// Whether the order of rows already has each of these upstreams, by their flags in `standing`; true for no upstreams.
 fn all_stand(upstreams: &[u32], standing: &[bool]) -> bool
     ensures { result ≡ list_all (stands standing.now) upstreams.now }
 {
@@ -53,17 +53,19 @@ fn all_stand(upstreams: &[u32], standing: &[bool]) -> bool
         .all(|upstream| stands_in(standing, *upstream))
 }
 
-/// Whether `task` is directly upstream of `other`, all of whose upstreams are already in the order of rows.
-fn is_let_go(dag: &Dag, standing: &[bool], task: u32, other: u32) -> bool
+/// Whether `task` is directly upstream of `other`, and the order of rows already has all upstreams of `other`, by their
+/// flags in `standing`.
+fn is_released(dag: &Dag, standing: &[bool], task: u32, other: u32) -> bool
     requires { other < length dag.now.tasks }
     ensures { result ≡ is_let_go_in dag.now standing.now task other }
 {
     let upstreams = dag.task(other).upstreams.as_slice();
-    waits_for(upstreams, task) && all_stand(upstreams, standing)
+    is_among(upstreams, task) && all_stand(upstreams, standing)
 }
 
-/// The tasks directly downstream of `task` all of whose upstreams are already in the order of rows, in file order.
-fn let_go_by(
+/// The tasks directly downstream of `task`, in file order, all of whose upstreams the order of rows already has, by
+/// their flags in `standing`.
+fn released_by(
     alloc: Global,
     dag: &Dag,
     standing: &[bool],
@@ -75,14 +77,14 @@ fn let_go_by(
 {
     let mut found = Vec::new(alloc);
     for other in 0..dag.tasks.len() as u32 {
-        if is_let_go(dag, standing, task, other) {
+        if is_released(dag, standing, task, other) {
             found.push(other)?;
         }
     }
     Ok(found)
 }
 
-/// The tasks without upstreams, in file order.
+/// The numbers of the tasks without upstreams, in file order.
 fn tasks_without_upstreams(alloc: Global, dag: &Dag) -> Result<Vec<u32>, OutOfMemory>
     requires { IsSound dag.now }
     ensures { IfOk result (λ tasks. tasks.items ≡ tasks_where dag.now (has_no_upstreams_in dag.now)) }
@@ -96,7 +98,8 @@ fn tasks_without_upstreams(alloc: Global, dag: &Dag) -> Result<Vec<u32>, OutOfMe
     Ok(found)
 }
 
-/// The tasks that are in the order of rows already, as flags, and those that may come next, the next one last.
+/// The state of the walk that orders the rows: the tasks that it has placed, as flags, and those that may come next,
+/// the next one last.
 #[derive(Drop)]
 struct Walk {
     standing: Vec<bool>,
@@ -104,8 +107,8 @@ struct Walk {
 }
 
 impl Walk {
-    /// Takes the next task of the order, and puts those that wait for nothing more than it before all others left;
-    /// None at the end.
+    /// Takes the next task of the order, and puts the tasks that waited for no other before all that are left. None
+    /// where no task is left.
     fn next(&mut self, alloc: Global, dag: &Dag) -> Result<Option<u32>, OutOfMemory>
         requires { IsSound dag.now }
         ensures none { IfOk result (λ next. IfNone next (reverse self.old.left.items ≡ [])) }
@@ -115,14 +118,14 @@ impl Walk {
             return Ok(None);
         };
         mark_standing(&mut self.standing, task);
-        let mut more = let_go_by(alloc, dag, self.standing.as_slice(), task)?;
+        let mut more = released_by(alloc, dag, self.standing.as_slice(), task)?;
         more.reverse();
         self.left.extend_from_slice(more.as_slice())?;
         Ok(Some(task))
     }
 }
 
-/// The walk before its first task, with the tasks without upstreams to come.
+/// The walk before its first task: none is placed, and the tasks without upstreams are left, in file order.
 fn first_walk(alloc: Global, dag: &Dag) -> Result<Walk, OutOfMemory>
     requires { IsSound dag.now }
     ensures standing { IfOk result
@@ -136,8 +139,8 @@ fn first_walk(alloc: Global, dag: &Dag) -> Result<Walk, OutOfMemory>
     Ok(Walk { standing, left })
 }
 
-/// The tasks in the order of a grid's rows: the sources in file order, and behind each task those of its downstreams
-/// that wait for nothing more. A task on a cycle, which no sound graph has, is left out.
+/// The tasks in the order of a grid's rows: those without upstreams in file order, and after each task its downstreams
+/// that wait for no other. Each upstream stands before its downstreams.
 pub fn tasks_in_order(alloc: Global, dag: &Dag) -> Result<Vec<u32>, OutOfMemory>
     requires { IsSound dag.now }
     ensures { IfOk result (λ order. order.items ≡ order_of dag.now) }

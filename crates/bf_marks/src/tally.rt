@@ -7,8 +7,8 @@ use bf_value::OutOfMemory;
 use bf_xcom::{Outcome, RunState, TaskResult};
 use std::alloc::Global;
 
-/// How many instances of tasks in runs came to each state, where what was decided without a try counts as one; and
-/// whether one of them took more than one try.
+/// How many instances of tasks in runs have each state, where a task that didn't run counts as one instance. `retried`
+/// says whether one of them took more than one try.
 #[derive(Clone, Copy, Debug, PartialEq, Eq)]
 pub struct Tally {
     pub success: u64,
@@ -20,7 +20,7 @@ pub struct Tally {
 }
 
 impl Tally {
-    /// The tally of no instance.
+    /// The tally of no instances.
     pub fn nothing() -> Tally
         ensures { result ≡ nothing }
     {
@@ -59,7 +59,7 @@ impl Tally {
         }
     }
 
-    /// The sums of both tallies.
+    /// The sums of both tallies; a count that would exceed 2^64 - 1 stays at that.
     pub fn add(self, other: Tally) -> Tally
         ensures { result ≡ add self other }
     {
@@ -73,7 +73,7 @@ impl Tally {
         }
     }
 
-    /// Whether something failed, is upstream_failed or has no status.
+    /// Whether an instance failed, is upstream_failed or has no status.
     pub fn is_bad(self) -> bool
         ensures { result ≡ is_bad self }
     {
@@ -81,7 +81,7 @@ impl Tally {
     }
 }
 
-/// The tally of an instance in a report.
+/// The tally of one instance of a report.
 fn tally_of_instance(alloc: Global, instance: &InstanceReport) -> Result<Tally, OutOfMemory>
     ensures { IfOk result (λ tally. tally ≡ instance_tally instance.now) }
 {
@@ -89,7 +89,7 @@ fn tally_of_instance(alloc: Global, instance: &InstanceReport) -> Result<Tally, 
     Ok(Tally::of_ended(&ended))
 }
 
-/// The tally of instances in a report.
+/// The tally of these instances of a report.
 fn tally_of_instances(alloc: Global, instances: &[InstanceReport]) -> Result<Tally, OutOfMemory>
     ensures { IfOk result (λ tally. tally ≡ sum (map instance_tally instances.now)) }
 {
@@ -100,7 +100,7 @@ fn tally_of_instances(alloc: Global, instances: &[InstanceReport]) -> Result<Tal
     Ok(tally)
 }
 
-/// The tally of a task in a run, over its instances where it is expanded; one for a state without a try.
+/// The tally of a task in a run: over its instances where it ran, else of its state, counted as one instance.
 fn tally_of_task(alloc: Global, task: &TaskReport) -> Result<Tally, OutOfMemory>
     ensures { IfOk result (λ tally. tally ≡ task_tally task.now) }
 {
@@ -123,7 +123,7 @@ fn tally_of_task(alloc: Global, task: &TaskReport) -> Result<Tally, OutOfMemory>
     }
 }
 
-/// The tally of a task in a run, by the task's place, from 0; one no_status where the run has no such place.
+/// The tally of task number `task` in a run; one no_status where the run has no such task.
 pub fn tally_at(alloc: Global, run: &RunReport, task: u32) -> Result<Tally, OutOfMemory>
     ensures { IfOk result (λ tally. tally ≡ tally_in task run.now) }
 {
@@ -136,7 +136,7 @@ pub fn tally_at(alloc: Global, run: &RunReport, task: u32) -> Result<Tally, OutO
     }
 }
 
-/// The tally of a task, by its place, from 0, over all of these runs.
+/// The tally of task number `task` over all these runs; a run without such a task counts as one no_status.
 pub fn tally_in(alloc: Global, runs: &[&RunReport], task: u32) -> Result<Tally, OutOfMemory>
     ensures { IfOk result (λ tally. tally ≡ runs_tally task (map (λ run. run.now) runs.now)) }
 {
@@ -147,7 +147,7 @@ pub fn tally_in(alloc: Global, runs: &[&RunReport], task: u32) -> Result<Tally, 
     Ok(tally)
 }
 
-/// The tally of one run by its state.
+/// The tally of one run, counted by its own state.
 fn state_tally(state: RunState) -> Tally
     ensures { result ≡ state_tally_of state }
 {
@@ -164,7 +164,7 @@ fn state_tally(state: RunState) -> Tally
     }
 }
 
-/// The tally of runs by their own states.
+/// The tally of these runs, counted by their own states.
 pub fn tally_of_run_states(runs: &[RunReport]) -> Tally
     ensures { result ≡ states_tally runs.now }
 {
@@ -175,7 +175,7 @@ pub fn tally_of_run_states(runs: &[RunReport]) -> Tally
     tally
 }
 
-/// The tally of these runs, which a grid shows, by their own states.
+/// The tally of these runs, those that a grid shows, counted by their own states.
 pub fn tally_of_shown_states(runs: &[&RunReport]) -> Tally
     ensures { result ≡ states_tally (map (λ run. run.now) runs.now) }
 {

@@ -4,20 +4,24 @@ ghost use Rattle.bf_marks.specs.GridViews.{in_range, starts_from_in, starts_up_t
 
 use jiff::Timestamp;
 
-/// What is asked of a grid: the moments from and up to which runs are shown, where there are such; whether only tasks
-/// and runs are shown with something that failed, is upstream_failed or has no status; its width in characters; and
-/// whether it has colours.
+/// What a grid is asked to show.
 #[derive(Clone, Copy, Debug)]
 pub struct View {
+    /// The earliest start of a run to show; None for no such limit.
     pub from: Option<Timestamp>,
+    /// The latest start of a run to show; None for no such limit.
     pub to: Option<Timestamp>,
+    /// Whether only runs and tasks are shown in which something failed, is upstream_failed or has no status.
     pub failed: bool,
+    /// The width in characters that the grid should fit into.
     pub width: u32,
+    /// Whether marks are coloured.
     pub colored: bool,
 }
 
 impl View {
-    /// Whether a run that starts at this moment is shown: not before `from` and not after `to`, where they are given.
+    /// Whether a run that starts at `start` is in the view's range: not before `from` and not after `to`, where these
+    /// are given.
     pub fn has_start(&self, start: Timestamp) -> bool
         ensures { result ≡ in_range self.now start.nanosecond }
     {
@@ -25,7 +29,7 @@ impl View {
     }
 }
 
-/// Whether a run that starts at this moment doesn't start before `from`; true where that is None.
+/// Whether `start` isn't before `from`; true where that is None.
 fn starts_from(from: Option<Timestamp>, start: Timestamp) -> bool
     ensures { result ≡ starts_from_in from start.nanosecond }
 {
@@ -35,7 +39,7 @@ fn starts_from(from: Option<Timestamp>, start: Timestamp) -> bool
     }
 }
 
-/// Whether a run that starts at this moment doesn't start after `to`; true where that is None.
+/// Whether `start` isn't after `to`; true where that is None.
 fn starts_up_to(to: Option<Timestamp>, start: Timestamp) -> bool
     ensures { result ≡ starts_up_to_in to start.nanosecond }
 {

@@ -8,7 +8,7 @@ use crate::tally::Tally;
 use bf_value::OutOfMemory;
 use std::alloc::Global;
 
-/// How wide the sums of each state are; 0 where they aren't shown.
+/// How many bytes wide the column of sums of each state is; 0 where it isn't shown.
 #[derive(Clone, Copy, Debug, PartialEq, Eq)]
 pub struct Widths {
     pub success: usize,
@@ -18,7 +18,7 @@ pub struct Widths {
     pub no_status: usize,
 }
 
-/// How many bytes wide a column of sums is whose greatest is this; 0 where it isn't shown.
+/// How many bytes wide a column of sums is where the greatest is `greatest`; 0 where the column isn't shown.
 fn width_of(alloc: Global, shown: bool, greatest: u64) -> Result<usize, OutOfMemory>
     ensures { IfOk result (λ n. n ≡ width_in shown greatest) }
 {
@@ -30,7 +30,7 @@ fn width_of(alloc: Global, shown: bool, greatest: u64) -> Result<usize, OutOfMem
     Ok(text.len())
 }
 
-/// Adds a space and a text, right-aligned in `width` bytes, to a row; nothing where `width` is 0.
+/// Adds a space and `shown`, right-aligned in `width` bytes; adds nothing where `width` is 0.
 fn push_in_column(text: &mut Vec<u8>, width: usize, shown: &[u8]) -> Result<(), OutOfMemory>
     ensures { OnOk result (text.new.items ≡ text.old.items ++ in_column width shown.now) }
 {
@@ -41,8 +41,7 @@ fn push_in_column(text: &mut Vec<u8>, width: usize, shown: &[u8]) -> Result<(), 
     push_right_aligned(text, width, shown)
 }
 
-/// Adds a space and a sum, right-aligned in `width` bytes, to a row: spaces alone for 0, and nothing where `width` is
-/// 0.
+/// Adds a space and a sum, right-aligned in `width` bytes, with a sum of 0 left blank; adds nothing where `width` is 0.
 fn push_sum(alloc: Global, text: &mut Vec<u8>, width: usize, number: u64) -> Result<(), OutOfMemory>
     ensures { OnOk result (text.new.items ≡ text.old.items ++ sum_text width number) }
 {
@@ -54,8 +53,8 @@ fn push_sum(alloc: Global, text: &mut Vec<u8>, width: usize, number: u64) -> Res
 }
 
 impl Widths {
-    /// How wide the columns of sums are, by `total`, the sums over all tasks, and `states`, those of the runs. A
-    /// state without any has no column.
+    /// How wide the columns of sums are, by the sums over all tasks, `total`, and over the runs, `states`. Only a state
+    /// that some task has gets a column; failed gets one for a failed run, too.
     pub fn of(alloc: Global, total: Tally, states: Tally) -> Result<Widths, OutOfMemory>
         ensures { IfOk result (λ widths. widths ≡ widths_of total states) }
     {
@@ -69,7 +68,7 @@ impl Widths {
         })
     }
 
-    /// Adds the sums of a tally to a row, each right-aligned in its column.
+    /// Adds the sums of a tally, each right-aligned in the column of its state; a state without a column is left out.
     pub fn push_sums(
         self,
         alloc: Global,
@@ -97,7 +96,7 @@ impl Widths {
     }
 }
 
-/// Adds a name; `..` stands for its middle where it has more than `room` bytes.
+/// Adds a name, cut to `room` bytes, with `..` for its middle, where it is longer.
 pub fn push_cut_name(text: &mut Vec<u8>, room: usize, name: &[u8]) -> Result<(), OutOfMemory>
     requires { 2 ≤ room }
     ensures { OnOk result (text.new.items ≡ text.old.items ++ cut_name room name.now) }
@@ -111,8 +110,8 @@ pub fn push_cut_name(text: &mut Vec<u8>, room: usize, name: &[u8]) -> Result<(),
     push(text, &name[name.len() - (room - 2 - front)..])
 }
 
-/// How much of `room` is left beside a column of sums of this width and the space before it; all where the width is
-/// 0.
+/// How much of `room` is left beside a column of sums of this width and the space before it; all of it where the width
+/// is 0.
 fn room_beside(width: usize, room: usize) -> usize
     ensures { result ≡ room_beside_of width room }
 {
@@ -123,7 +122,8 @@ fn room_beside(width: usize, room: usize) -> usize
     }
 }
 
-/// How many columns of runs fit into `width` beside names of `names` bytes and the columns of sums; at least 8.
+/// How many columns of runs fit into a grid of `width` characters beside names of `names` bytes and the columns of
+/// sums; at least 8.
 pub fn column_count_of(width: usize, names: usize, widths: Widths) -> usize
     ensures room { result ≡ column_count_in width names widths }
     ensures some { 8 ≤ result }

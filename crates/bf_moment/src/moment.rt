@@ -9,7 +9,7 @@ use jiff::civil::DateTime;
 use jiff::tz::Offset;
 use std::fmt;
 
-/// The year, month, day, hour, minute and second of a civil time.
+/// Gives the year, month, day, hour, minute and second of a civil time.
 fn civil_fields_of(at: DateTime) -> (u16, u8, u8, u8, u8, u8)
     requires { IsShownDate at.date }
     ensures value { result ≡ fields at }
@@ -26,7 +26,7 @@ fn civil_fields_of(at: DateTime) -> (u16, u8, u8, u8, u8, u8)
     )
 }
 
-/// The ASCII digit of a number below 10.
+/// Gives the ASCII digit of a number below 10.
 fn ascii_digit_of(n: u16) -> u8
     requires { n < 10 }
     ensures { result ≡ 48 + n }
@@ -34,7 +34,7 @@ fn ascii_digit_of(n: u16) -> u8
     b'0' + n as u8
 }
 
-/// The text `YYYY-MM-DDThh:mm:ssZ` of a civil time, in 20 bytes of ASCII.
+/// Spells a civil time as `YYYY-MM-DDThh:mm:ssZ`, 20 bytes of ASCII; drops fractions of a second.
 fn clock_bytes(at: DateTime) -> [u8; 20]
     requires { IsShownDate at.date }
     ensures text { result ≡ clock_text at }
@@ -65,7 +65,7 @@ fn clock_bytes(at: DateTime) -> [u8; 20]
     ]
 }
 
-/// The text of a moment, as `2024-01-31T06:05:09Z`. What is less than a second is left out.
+/// Spells a moment in UTC as `2024-01-31T06:05:09Z`, 20 bytes of ASCII; drops fractions of a second.
 pub fn moment_bytes(at: Timestamp) -> [u8; 20]
     requires { IsShown at.nanosecond }
     ensures text { result ≡ moment_text at.nanosecond }
@@ -74,7 +74,7 @@ pub fn moment_bytes(at: Timestamp) -> [u8; 20]
     clock_bytes(Offset::UTC.to_datetime(at))
 }
 
-/// A moment of a year of four digits. It is displayed as `moment_bytes` spells it.
+/// A moment in a year of four digits. Its `Display` spells it as `moment_bytes` does.
 #[derive(Clone, Copy, Debug)]
 pub struct Moment {
     pub at: Timestamp,
@@ -82,7 +82,7 @@ pub struct Moment {
 }
 
 impl Moment {
-    /// The moment of a timestamp.
+    /// Makes the moment of a timestamp.
     pub fn new(at: Timestamp) -> Moment
         requires { IsShown at.nanosecond }
         ensures { result.at ≡ at }
@@ -96,6 +96,7 @@ impl fmt::Display for Moment {
 
     ghost output = { λ m. Some (moment_text m.at.nanosecond) };
 
+    /// Writes the moment in UTC, in the form `2024-01-31T06:05:09Z`.
     fn fmt<W: fmt::Write>(&self, f: &mut fmt::Formatter<W>) -> fmt::Result {
         let bytes = moment_bytes(self.at);
         let Ok(text) = std::str::from_utf8(&bytes) else {

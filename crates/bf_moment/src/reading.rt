@@ -10,7 +10,7 @@ use jiff::Timestamp;
 use jiff::civil::{Date, DateTime, Time};
 use jiff::tz::Offset;
 
-/// The number that two ASCII digits spell; None where one is no digit.
+/// Gives the number that two ASCII digits spell; None where one is no digit.
 fn number_of_two_digits(tens: u8, ones: u8) -> Option<u8>
     ensures found { IfSome result (λ n. (n < 100) × (two n ≡ tens ∷ ones ∷ [])) }
     ensures none { IfNone result ((n : ℕ) → n < 100 → two n ≡ tens ∷ ones ∷ [] → ⊥) }
@@ -21,7 +21,7 @@ fn number_of_two_digits(tens: u8, ones: u8) -> Option<u8>
     Some(10 * (tens - b'0') + (ones - b'0'))
 }
 
-/// The number that four ASCII digits spell; None where one is no digit.
+/// Gives the number that four ASCII digits spell; None where one is no digit.
 fn number_of_four_digits(a: u8, b: u8, c: u8, d: u8) -> Option<u16>
     ensures found { IfSome result (λ n. (n < 10_000) × (four n ≡ a ∷ b ∷ c ∷ d ∷ [])) }
     ensures none { IfNone result ((n : ℕ) → n < 10_000 → four n ≡ a ∷ b ∷ c ∷ d ∷ [] → ⊥) }
@@ -30,7 +30,7 @@ fn number_of_four_digits(a: u8, b: u8, c: u8, d: u8) -> Option<u16>
     Some(100 * u16::from(high) + u16::from(low))
 }
 
-/// The date that a text spells as `YYYY-MM-DD`; None of any other text, and of a day that no calendar has.
+/// Reads a date spelled as `YYYY-MM-DD`; None for any other text, and for a day that the calendar doesn't have.
 fn date_in(text: &[u8]) -> Option<Date>
     ensures found { IfSome result (λ d. IsShownDate d × (text.now ≡ clock_date_text d)) }
     ensures none { IfNone result ((d : Date) → IsShownDate d → text.now ≡ clock_date_text d → ⊥) }
@@ -49,7 +49,7 @@ fn date_in(text: &[u8]) -> Option<Date>
     }
 }
 
-/// The time of day that a text spells as `hh:mm:ss`; None of any other text, and of an hour 24 or a second 60.
+/// Reads a time of day spelled as `hh:mm:ss`, from `00:00:00` to `23:59:59`; None for any other text.
 fn time_in(text: &[u8]) -> Option<Time>
     ensures found { IfSome result
         (λ t. (t.subsec_nanosecond ≡ 0) × (text.now ≡ clock_time_text t)) }
@@ -69,7 +69,7 @@ fn time_in(text: &[u8]) -> Option<Time>
     }
 }
 
-/// The civil time that a text spells as `YYYY-MM-DDThh:mm:ssZ`, or midnight of `YYYY-MM-DD`; None of any other text.
+/// Reads a civil time spelled as `YYYY-MM-DDThh:mm:ssZ`, or as `YYYY-MM-DD` for its midnight; None for any other text.
 fn clock_in(text: &[u8]) -> Option<DateTime>
     ensures found { IfSome result (SpellsClock text.now) }
     ensures none { IfNone result ((at : DateTime) → SpellsClock text.now at → ⊥) }
@@ -85,7 +85,7 @@ fn clock_in(text: &[u8]) -> Option<DateTime>
     Some(date.to_datetime(time))
 }
 
-/// The moment of a civil time in UTC, or the last `Timestamp` where it is past that.
+/// Gives the moment of a civil time in UTC; the last `Timestamp` for a time past that.
 fn moment_of(at: DateTime) -> Timestamp
     requires { IsShownDate at.date }
     ensures { result.nanosecond ≡ nearest (civil_nanos at) }
@@ -96,9 +96,9 @@ fn moment_of(at: DateTime) -> Timestamp
     }
 }
 
-/// The moment that a text spells, as `2024-01-31T06:05:09Z` or, for midnight in UTC, `2024-01-31`; None of any other
-/// text. There is no hour 24 and no second 60. A moment in the last 25:59:59 of the year 9999, which are past the
-/// last `Timestamp`, counts as that one.
+/// Reads a moment spelled as `2024-01-31T06:05:09Z` or, for midnight in UTC, `2024-01-31`; None for any other text, and
+/// for an hour 24 or a second 60. A moment past the last `Timestamp`, in the last 25:59:59 of the year 9999, reads as
+/// that one.
 pub fn moment_in(text: &str) -> Option<Timestamp>
     ensures found { IfSome result
         (λ t. (n : ℤ) × (Spells text.now n × (t.nanosecond ≡ nearest n))) }
@@ -108,7 +108,7 @@ pub fn moment_in(text: &str) -> Option<Timestamp>
     Some(moment_of(at))
 }
 
-/// Whether a text is the long form of a moment that exists, as `2024-01-31T06:05:09Z`.
+/// Answers whether a text spells an existing moment in the long form, `2024-01-31T06:05:09Z`.
 pub fn is_long_moment(text: &str) -> bool
     ensures { result ≡ is_long text.now }
 {

@@ -7,19 +7,19 @@ ghost use Rattle.bf_page.specs.Page.{page_text};
 use crate::page::PageTexts;
 use bf_texts::page;
 
-/// The longest text of which 63 have fewer bytes than 64 bits can say: up to 42 fixed texts, and seven told ones with each
-/// byte as three.
+/// 2^58 bytes: where no text is longer, a page of up to 42 fixed texts and seven others, each byte of which may be
+/// escaped as three, has fewer than 2^64 bytes.
 const LONGEST: usize = 288_230_376_151_711_744;
 
-/// Whether one of these texts is longer than LONGEST.
+/// Whether one of these texts has more than `LONGEST` bytes.
 fn has_long(texts: &[&str]) -> bool
     ensures { result ≡ list_any (λ text. is_long text.now) texts.now }
 {
     texts.iter().any(|text| text.len() > LONGEST)
 }
 
-/// True only where a page of these texts has fewer bytes than 64 bits can count; false also for some pages that no
-/// memory holds.
+/// True only where a page of these texts has fewer than 2^64 bytes, so that 64 bits can count them. False for any
+/// other, and for some that no memory holds.
 pub fn can_be_counted(texts: &PageTexts<'_>) -> bool
     ensures { result ≡ true → length (page_text texts.now) < 2 ^ 64 }
 {

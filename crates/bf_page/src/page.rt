@@ -8,22 +8,27 @@ use crate::sending::{Piece, send_pieces};
 use bf_device::{Write, WriteFault};
 use bf_texts::page;
 
-/// What a page tells: the words of the line for the three paths, of which the zone file's is empty where there is
-/// none; the cells; the graph file; the report, which is empty where it is left out; and the times of a journal,
-/// where there is one.
+/// The texts that a page has.
 #[derive(Clone, Copy, Debug)]
 pub struct PageTexts<'a> {
+    /// The path of the graph file, as the command line has it.
     pub graph_path: &'a str,
+    /// The path of the report, as the command line has it.
     pub report_path: &'a str,
+    /// The path of the zone file, as the command line has it; empty where it has none.
     pub zone_path: &'a str,
+    /// The cells of the report, as `bf_cells` makes them.
     pub cells: &'a str,
+    /// The bytes of the graph file.
     pub graph: &'a [u8],
+    /// The bytes of the report; empty where the page leaves them out.
     pub report: &'a [u8],
+    /// The times of the journal; empty where there is none.
     pub times: &'a str,
 }
 
-/// Writes a page, in whatever parts the device takes. It gives up where a write fails or takes nothing, and at the
-/// 1,001st interruption. The fault counts the bytes that went out, as a counter of 64 bits does.
+/// Writes a page, in as many writes as the device needs. `Err` tells how many bytes went out, modulo 2^64, before a
+/// write failed or took nothing, or before the 1,001st interruption.
 pub fn write_page<W: Write>(texts: &PageTexts<'_>, out: &mut W) -> Result<(), WriteFault>
     ensures ok { OnOk result (W.written out.new
         ≡ sent (W.written out.old) (page_text texts.now)) }

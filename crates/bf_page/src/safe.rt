@@ -2,14 +2,14 @@
 ghost use Rattle.std.specs.Prelude.{◌≡◌, ◌||◌, ◌==◌, ◌<◌, ◌≤◌, ◌++◌, length, slice_index, take};
 ghost use Rattle.bf_page.specs.Safe.{safe, safe_byte};
 
-/// Whether a byte is escaped on a page: `%`, `<`, a carriage return or U+0000.
+/// Whether a page escapes this byte: `%`, `<`, a carriage return or U+0000.
 fn is_escaped(byte: u8) -> bool
     ensures { result ≡ (byte == 37 || (byte == 60 || (byte == 13 || byte == 0))) }
 {
     byte == b'%' || (byte == b'<' || (byte == b'\r' || byte == 0))
 }
 
-/// How many bytes at the front of a text a page has unescaped, up to the first that it escapes.
+/// How many bytes at the front of a text a page has as they are, up to the first that it escapes.
 fn plain_length(text: &[u8]) -> usize
     ensures within { result ≤ length text.now }
     ensures plain { safe (take result text.now) ≡ take result text.now }
@@ -22,7 +22,7 @@ fn plain_length(text: &[u8]) -> usize
     text.len()
 }
 
-/// The first byte of a text as a page has it: escaped, as `%3C`, or as it is. The text isn't empty.
+/// The first byte of a text as a page has it: as it is, or escaped, with `%3C` for `<`. The text isn't empty.
 fn first_byte(text: &[u8]) -> &[u8]
     requires { 0 < length text.now }
     ensures { result.now ≡ safe_byte (slice_index text.now 0) }
@@ -36,8 +36,8 @@ fn first_byte(text: &[u8]) -> &[u8]
     }
 }
 
-/// The front of a text as a page has it, either all bytes up to one that is escaped or that one escaped, and the rest
-/// of the text. The text isn't empty.
+/// Splits a text in two: its front as a page has it, all bytes up to the first that is escaped, or just that one,
+/// escaped; and the rest, not escaped yet. The text isn't empty.
 pub(crate) fn split_safe_front(text: &[u8]) -> (&[u8], &[u8])
     requires { 0 < length text.now }
     ensures all { safe text.now ≡ result.0.now ++ safe result.1.now }

@@ -7,15 +7,15 @@ ghost use Rattle.bf_page.specs.inner.Pieces.{whole, behind, steps_behind, left};
 use crate::safe::split_safe_front;
 use bf_device::{Cause, Halt, MOST_INTERRUPTIONS, Write, WriteFault};
 
-/// A piece that is fixed, and the text that is told behind it.
+/// A fixed piece of a page, `fixed`, and the text that follows it, `told`, not escaped yet.
 #[derive(Clone, Copy)]
 pub(crate) struct Piece<'a> {
     pub(crate) fixed: &'a str,
     pub(crate) told: &'a [u8],
 }
 
-/// What of a text is still to go out: bytes as they lie in memory, a text that is told behind them, further pieces, and
-/// the fixed texts behind all pieces.
+/// What of a page is still to go out: first `front`, bytes as they are; then `told`, a text not escaped yet; then
+/// `pieces`; and at the end the fixed texts `last`.
 #[derive(Clone, Copy)]
 pub(crate) struct Rest<'a> {
     front: &'a [u8],
@@ -24,8 +24,8 @@ pub(crate) struct Rest<'a> {
     last: &'a [&'a str],
 }
 
-/// The next bytes to write and what is behind them, where `told` is left of a text and then these pieces and the last
-/// texts. The bytes may be none. None where nothing is left.
+/// Brings the next bytes to write to the front of what is left of a page: `told`, not escaped yet, then `pieces`, then
+/// the fixed texts `last`. The front may be empty. None where nothing is left.
 fn next_rest<'a>(told: &'a [u8], pieces: &'a [Piece<'a>], last: &'a [&'a str]) -> Option<Rest<'a>>
     ensures none { IfNone result (behind told.now pieces.now last.now ≡ []) }
     ensures some { IfSome result (λ rest. left rest ≡ behind told.now pieces.now last.now) }
@@ -61,7 +61,7 @@ fn next_rest<'a>(told: &'a [u8], pieces: &'a [Piece<'a>], last: &'a [&'a str]) -
     }
 }
 
-/// The fault of a device that failed after it took `sent` bytes.
+/// The fault of a device that halted after it took `sent` bytes.
 fn halted_after(sent: u64) -> WriteFault
     ensures sent { result.sent ≡ sent }
     ensures cause { result.cause ≡ Cause.Io }
@@ -72,8 +72,9 @@ fn halted_after(sent: u64) -> WriteFault
     }
 }
 
-/// Writes these pieces, each told text escaped, and the last texts behind them, in whatever parts the device takes. A
-/// fault where a write fails or takes nothing, and at the 1,001st interruption; it says how many bytes went out.
+/// Writes these pieces, each text escaped, and then the texts `last`, in as many writes as the device needs. `Err`
+/// tells how many bytes went out, modulo 2^64, before a write failed or took nothing, or before the 1,001st
+/// interruption.
 pub(crate) fn send_pieces<W: Write>(
     out: &mut W,
     pieces: &[Piece<'_>],

@@ -18,7 +18,8 @@ use bf_try::{Done, RunnerFault, TaskRunner, Ticket};
 use bf_workers::Workers;
 use std::alloc::Global;
 
-/// The fault of a backfill whose runner gave no answer to this ticket: want of memory, or that it gave up the try.
+/// The fault of a backfill whose runner gave no answer to `ticket`: `OutOfMemory` at want of memory, `Runner` with the
+/// try's name where it gave the try up.
 fn fault_of(ticket: Ticket, fault: RunnerFault) -> BackfillFault
     ensures { result ≡ fault_by ticket fault }
 {
@@ -28,7 +29,8 @@ fn fault_of(ticket: Ticket, fault: RunnerFault) -> BackfillFault
     }
 }
 
-/// The runner's answer to the try of a ticket; a fault where it gives none.
+/// The runner's answer to the try of a ticket. `Runner` where the runner gave the try up, `OutOfMemory` at want of
+/// memory.
 fn answer_to<R: TaskRunner>(runner: &R, ticket: Ticket) -> Result<Done, BackfillFault>
     ensures ok { IfOk result (λ done. (done.name ≡ ticket.name) × (done.given ≡ ticket.given)
         × R.may_answer runner.now ticket.name ticket.given done.raw) }
@@ -40,7 +42,8 @@ fn answer_to<R: TaskRunner>(runner: &R, ticket: Ticket) -> Result<Done, Backfill
     }
 }
 
-/// Runs the try of a ticket, which has begun, and ends it by the runner's answer; a fault where there is no answer.
+/// Runs the try of a ticket, which has begun, and ends it by the runner's answer. `Runner` where the runner gave the
+/// try up, `OutOfMemory` at want of memory.
 fn make_try<R: TaskRunner>(
     runner: &R,
     scheduler: &mut Scheduler<'_>,
@@ -62,7 +65,8 @@ fn make_try<R: TaskRunner>(
 }
 
 /// Lets one event come by itself, or makes one try from its begin to its end, or moves the clock to the moment for
-/// which a try waits. False where the backfill has ended; a fault where the runner gives no answer.
+/// which a try waits. False where the backfill has ended. `Runner` where the runner gave the try up, `OutOfMemory` at
+/// want of memory.
 fn turn<R: TaskRunner>(runner: &R, scheduler: &mut Scheduler<'_>) -> Result<bool, BackfillFault>
     requires { IsIdle scheduler.old }
     ensures idle { OnOk result (IsIdle scheduler.new) }
@@ -93,8 +97,8 @@ fn turn<R: TaskRunner>(runner: &R, scheduler: &mut Scheduler<'_>) -> Result<bool
     }
 }
 
-/// Turns until the backfill has ended, or the runner gives no answer. One comes: each turn adds an event, and no
-/// journal outgrows memory.
+/// Takes turns until the backfill has ended, which it does: each turn adds an event, and no journal outgrows memory.
+/// `Runner` where the runner gave a try up, `OutOfMemory` at want of memory.
 fn all_turns<R: TaskRunner>(runner: &R, scheduler: &mut Scheduler<'_>) -> Result<(), BackfillFault>
     requires { IsIdle scheduler.old }
     ensures driven { OnOk result (StaysDriven (R.may_answer runner.now) scheduler.old
@@ -103,7 +107,7 @@ fn all_turns<R: TaskRunner>(runner: &R, scheduler: &mut Scheduler<'_>) -> Result
     ensures err { IfErr result (MayFault (R.may_give_up runner.now)) }
     ensures ticks { OnOk result (TicksSo scheduler.old scheduler.new) }
 {
-    // what the proof of its end goes by
+    // The proof that the loop ends goes by the length of the journal.
     let mut events = scheduler.journal().len();
     while turn(runner, scheduler)? {
         events = scheduler.journal().len();
@@ -111,7 +115,8 @@ fn all_turns<R: TaskRunner>(runner: &R, scheduler: &mut Scheduler<'_>) -> Result
     Ok(())
 }
 
-/// Drives a backfill from its start to its end; a fault where the runner gives no answer.
+/// Drives a backfill from its start to its end. `Runner` where the runner gave a try up, `OutOfMemory` at want of
+/// memory.
 fn drive<'p, N: RunCount, R: TaskRunner>(
     alloc: Global,
     plan: &'p Plan,
@@ -136,9 +141,9 @@ fn drive<'p, N: RunCount, R: TaskRunner>(
     }
 }
 
-/// The end of a backfill of a plan over these runs, whose tries the runner answers, one after the other in this
-/// thread. A try that waits for a moment is made once nothing else is left to do, and no time passes. One that the
-/// runner gives up is the fault `Runner`.
+/// Drives a backfill of the plan over these runs to its end; `runner` answers its tries, one after the other in this
+/// thread. Where only tries are left that wait for a moment, the clock goes to the earliest at once. `Runner` where the
+/// runner gave a try up, `OutOfMemory` at want of memory.
 pub fn one_by_one<'p, N: RunCount, R: TaskRunner>(
     alloc: Global,
     plan: &'p Plan,

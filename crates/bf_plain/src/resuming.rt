@@ -14,8 +14,8 @@ use bf_runs::RunCount;
 use bf_try::TaskRunner;
 use std::alloc::Global;
 
-/// The end of a backfill of a plan over these runs, of which tries are kept: a try that is kept, and is given the same
-/// again, ends as it did and is never given up, and the runner answers every other. All else is as in `one_by_one`.
+/// Drives a backfill of the plan over these runs to its end, with kept tries: a kept try that is given the same again
+/// ends as it did, and `keeping`'s runner answers every other. All else is as in `one_by_one`.
 pub fn resume_one_by_one<'p, N: RunCount, K: KeptTries, R: TaskRunner>(
     alloc: Global,
     plan: &'p Plan,

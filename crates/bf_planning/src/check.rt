@@ -7,15 +7,15 @@ use bf_check::check;
 use bf_command_fault::CommandFault;
 use std::alloc::Global;
 
-/// How many tasks and distinct edges a graph has.
+/// How many tasks a graph has, and how many edges, each counted once.
 #[derive(Clone, Copy, Debug, PartialEq, Eq)]
 pub struct GraphSize {
     pub tasks: usize,
     pub edges: usize,
 }
 
-/// Checks a graph file, as its bytes, and gives the size of its graph, or the fault by which it is refused. The bytes
-/// of a zone file are looked at only where the graph's zone is `file`.
+/// Checks the bytes of a graph file, and gives its size. Looks at those of the zone file only where the graph's zone is
+/// `file`. `Err` where the graph is refused, or at want of memory.
 pub fn check_graph(
     alloc: Global,
     graph: &[u8],

@@ -14,7 +14,7 @@ use bf_moment::Moment;
 use bf_value::OutOfMemory;
 use std::alloc::Global;
 
-/// Adds the line of a data interval: its start, a space, its end and a line feed.
+/// Appends the line of a data interval: its start, a space and its end, both in UTC.
 fn push_interval(text: &mut String, interval: &Interval) -> Result<(), OutOfMemory>
     requires { IsSince1970 interval.now }
     ensures { OnOk result (string_bytes text.new ≡ string_bytes text.old
@@ -25,7 +25,7 @@ fn push_interval(text: &mut String, interval: &Interval) -> Result<(), OutOfMemo
     Ok(())
 }
 
-/// A line for each interval, its line feed included: its start and its end, separated by a space.
+/// Gives a line for each data interval: its start, a space and its end, both in UTC.
 fn text_of_intervals(alloc: Global, intervals: &[Interval]) -> Result<String, OutOfMemory>
     requires { All IsSince1970 intervals.now }
     ensures { IfOk result (λ text. string_bytes text ≡ intervals_text intervals.now) }
@@ -37,9 +37,9 @@ fn text_of_intervals(alloc: Global, intervals: &[Interval]) -> Result<String, Ou
     Ok(text)
 }
 
-/// Writes a line for each data interval of the graph's schedule that starts in the range, its ends included, in
-/// order. Nothing is written where the graph is refused or the runs can't be listed; a failed write tells how much
-/// was.
+/// Writes a line for each data interval of the graph's schedule that starts in the range, its ends included, by date.
+/// `Err` where the graph or the range is refused, `out` fails, or memory runs out. At `Err`, `out` got nothing but the
+/// bytes that `CannotWrite` counts.
 pub fn write_list<W: Write>(
     alloc: Global,
     graph: &[u8],

@@ -23,7 +23,7 @@ use bf_table::Table;
 use bf_value::OutOfMemory;
 use std::alloc::Global;
 
-/// The plan of a graph file, and the zone of its schedule.
+/// The plan of a graph file, and the time zone of its schedule.
 #[derive(Drop)]
 pub struct TimedPlan {
     pub plan: Plan,
@@ -31,8 +31,8 @@ pub struct TimedPlan {
 }
 
 impl TimedPlan {
-    /// A run for each data interval of the plan's schedule that starts where `starts` says, its ends included; a
-    /// fault where they can't be listed. None starting is no fault.
+    /// Makes a run for each data interval of the schedule that starts where `starts` says, its ends included; maybe
+    /// none. `Err` where they can't be listed, or at want of memory.
     fn runs_from_starts(&self, alloc: Global, starts: Starts) -> Result<Runs, IntervalFault>
         requires { IsSaid self.now.plan.schedule }
         ensures { (zone : TimeZone) × IsZoneOf self.now.zone zone
@@ -50,8 +50,8 @@ impl TimedPlan {
         }
     }
 
-    /// A run for each data interval of the plan's schedule that starts in the range, its ends included. A fault where
-    /// they can't be listed, or where there is none though `range.some` asks for one.
+    /// Makes a run for each data interval of the schedule that starts in the range, its ends included. `Err` where they
+    /// can't be listed, there is none though `range.some` asks for one, or memory runs out.
     pub fn runs(&self, alloc: Global, range: RunRange) -> Result<Runs, CommandFault>
         requires { IsSaid self.now.plan.schedule }
         ensures ok { IfOk result (λ runs. (graph : List ℕ) (file : Option (List ℕ))
@@ -68,7 +68,7 @@ impl TimedPlan {
         Ok(runs)
     }
 
-    /// What the clocks of the zone show at the moments of these runs.
+    /// Answers the local time in the plan's zone at the start of each run, in order.
     fn clocks(&self, alloc: Global, runs: &Runs) -> Result<Vec<Moment>, OutOfMemory>
         ensures { IfOk result (λ clocks. (graph : List ℕ) (file : Option (List ℕ))
             → IsTimed graph file self.now.plan.schedule self.now.zone
@@ -78,9 +78,9 @@ impl TimedPlan {
         clocks_of(alloc, &zone, runs)
     }
 
-    /// The plan with a run for each data interval of its schedule that starts in the range, its ends included, and
-    /// the runs' clocks. A fault where the runs can't be listed, or where there is none though `range.some` asks for
-    /// one.
+    /// Adds to the plan a run for each data interval that starts in the range, its ends included, and the local time at
+    /// the start of each. `Err` where the runs can't be listed, there is none though `range.some` asks for one, or
+    /// memory runs out.
     pub fn into_dated(self, alloc: Global, range: RunRange) -> Result<DatedPlan, CommandFault>
         requires { IsSaid self.plan.schedule }
         ensures plan { IfOk result (λ dated. dated.plan ≡ self.plan) }
@@ -104,7 +104,7 @@ impl TimedPlan {
     }
 }
 
-/// The table that the bytes of a table file say, or the fault by which it is refused.
+/// Reads the table in the bytes of its file. `Err` where they aren't one, or at want of memory.
 pub fn table_in(alloc: Global, bytes: &[u8]) -> Result<Table, CommandFault>
     ensures ok { IfOk result (λ table. table_in bytes.now ≡ Ok table) }
     ensures fault { IfErr result (IsTableFault bytes.now) }
@@ -113,7 +113,8 @@ pub fn table_in(alloc: Global, bytes: &[u8]) -> Result<Table, CommandFault>
     Ok(table)
 }
 
-/// The draft that the bytes of a graph file say, before it is checked; a fault where they say none.
+/// Reads the bytes of a graph file into a draft, before its tasks, schedule and zone are checked. `Err` where they
+/// aren't a graph, or at want of memory.
 pub(crate) fn draft_in(alloc: Global, graph: &[u8]) -> Result<Draft, CommandFault>
     ensures ok { IfOk result (IsFileOf graph.now) }
     ensures fault { IfErr result (λ f. (file : Option (List ℕ)) → IsFaultIn graph.now file f) }
@@ -122,8 +123,8 @@ pub(crate) fn draft_in(alloc: Global, graph: &[u8]) -> Result<Draft, CommandFaul
     Ok(draft)
 }
 
-/// The plan of a graph file, with its zone, or the fault by which it is refused. `zone_file` has the bytes for the
-/// zone `file`.
+/// Makes the plan of a graph file, with its zone. `zone_file` has the bytes that the zone `file` needs. `Err` where the
+/// graph is refused, or at want of memory.
 pub fn timed_plan_in(
     alloc: Global,
     graph: &[u8],
@@ -141,7 +142,7 @@ pub fn timed_plan_in(
     Ok(TimedPlan { plan, zone })
 }
 
-/// The plan of a graph file, its runs, and what the clocks of the graph's zone show at their moments.
+/// The plan of a graph file, its runs by date, and for each run the local time at its start in the graph's zone.
 #[derive(Drop)]
 pub struct DatedPlan {
     pub plan: Plan,
@@ -149,9 +150,9 @@ pub struct DatedPlan {
     pub clocks: Vec<Moment>,
 }
 
-/// The plan of a graph file, and a run for each data interval of its schedule that starts in the range, its ends
-/// included. A fault where the file is refused, the runs can't be listed, or there is none though `range.some` asks
-/// for one.
+/// Makes the plan of a graph file, with a run for each data interval of its schedule that starts in the range, its ends
+/// included. `Err` where the graph is refused, the runs can't be listed, there is none though `range.some` asks for
+/// one, or memory runs out.
 pub fn dated_plan_in(
     alloc: Global,
     graph: &[u8],

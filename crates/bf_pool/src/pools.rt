@@ -34,7 +34,7 @@ impl Model for Pools {
 }
 
 impl Pools {
-    /// The pools of a plan, of which nothing is occupied.
+    /// The pools of a plan, with all slots free.
     pub fn new(alloc: Global, plan: &Plan) -> Result<Pools, OutOfMemory>
         ensures sizes { IfOk result (λ pools. pools.sizes ≡ plan.now.limits.pools) }
         ensures free { IfOk result (λ pools. (pool : ℕ) → occupied_of pools pool ≡ 0) }
@@ -61,7 +61,8 @@ impl Pools {
         self.occupied[pool as usize]
     }
 
-    /// Takes slots of a pool; `NoRoom`, and nothing changes, where they don't fit beside those that are occupied.
+    /// Takes `slots` slots of a pool. `NoRoom`, and nothing changes, where they don't fit beside those that are
+    /// occupied.
     pub fn take(&mut self, pool: u32, slots: u32) -> Result<(), NoRoom>
         requires { pool < length self.old.sizes }
         ensures fits { IsOk result ↔ (occupied_of self.old pool + slots ≤ size_of self.old pool) }
@@ -78,7 +79,7 @@ impl Pools {
         Ok(())
     }
 
-    /// Gives back slots of a pool that the caller holds.
+    /// Gives back `slots` slots of a pool, of those that were taken.
     pub fn give_back(&mut self, pool: u32, slots: u32)
         requires pool { pool < length self.old.sizes }
         requires held { slots ≤ occupied_of self.old pool }

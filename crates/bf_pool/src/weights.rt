@@ -8,7 +8,8 @@ use bf_plan::{Limits, Plan, WeightRule};
 use bf_value::OutOfMemory;
 use std::alloc::Global;
 
-/// The tasks whose weights count for a task beside its own, by its weight rule.
+/// The distinct tasks whose weights count for a task beside its own, by its weight rule: its descendants, its
+/// ancestors, or none.
 fn tasks_counting_for(
     alloc: Global,
     graph: &Graph,
@@ -42,8 +43,8 @@ fn weight_sum(limits: &Limits, tasks: &[u32]) -> u32
     total
 }
 
-/// The total priority weight of a task: its own, and by its weight rule those of all its distinct descendants, of all
-/// its distinct ancestors, or of none.
+/// The total priority weight of a task (Airflow's "Priority Weights"): its own, and by its weight rule those of all its
+/// distinct descendants, of all its distinct ancestors, or of none.
 pub fn total_weight(alloc: Global, plan: &Plan, task: u32) -> Result<u32, OutOfMemory>
     requires { task < length plan.now.dag.tasks }
     ensures { IfOk result (λ weight. weight ≡ total_weight_of plan.now.dag plan.now.limits task) }

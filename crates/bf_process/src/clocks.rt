@@ -14,7 +14,7 @@ use jiff::Timestamp;
 use jiff::tz::TimeZone;
 use std::alloc::Global;
 
-/// What a clock of the zone shows at the moment `at`, as a moment of UTC: that moment with the zone's offset added.
+/// Gives what the zone's clocks show at the moment `at`, written as a moment of UTC: `at` with the zone's offset added.
 fn clock_at(zone: &TimeZone<'_>, at: Timestamp) -> Moment
     requires { IsSecondTo2208 at.nanosecond }
     ensures { result.at.nanosecond ≡ clock_in (plain_zone zone.now) at.nanosecond }
@@ -26,7 +26,7 @@ fn clock_at(zone: &TimeZone<'_>, at: Timestamp) -> Moment
     Moment::new(shown)
 }
 
-/// What the clocks of a zone show at the moments of runs, in order of date, each as a moment of UTC.
+/// Gives what the zone's clocks show at the start of each run, by date, written as moments of UTC.
 pub fn clocks_of(
     alloc: Global,
     zone: &TimeZone<'_>,
@@ -43,8 +43,8 @@ pub fn clocks_of(
     Ok(clocks)
 }
 
-/// What the clock shows at the moment of the run with this number, from 0; where `clocks` has none for it, the start
-/// of the run's data interval, as UTC's clock shows it.
+/// Gives the clock in `clocks` of the run with this number, from 0; where there is none, the start of the run's data
+/// interval in UTC.
 pub(crate) fn clock_of_run<'a>(
     clocks: &'a [Moment],
     run: u32,
@@ -59,7 +59,7 @@ pub(crate) fn clock_of_run<'a>(
     }
 }
 
-/// A text of these bytes, which are ASCII.
+/// Makes a text of these ASCII bytes.
 fn text_of_ascii(alloc: Global, bytes: &[u8]) -> Result<String, OutOfMemory>
     requires { IsAscii bytes.now }
     ensures { IfOk result (λ text. string_bytes text ≡ bytes.now) }
@@ -70,7 +70,7 @@ fn text_of_ascii(alloc: Global, bytes: &[u8]) -> Result<String, OutOfMemory>
     Ok(String::from_str(alloc, text)?)
 }
 
-/// The date that a clock shows, as `2024-03-04`.
+/// Spells the date that a clock shows as `2024-03-04`.
 #[tactic(auto, unfolding(bf_moment::specs::Moment::moment_text))]
 pub(crate) fn text_of_date(alloc: Global, clock: &Moment) -> Result<String, OutOfMemory>
     ensures { IfOk result (λ text. string_bytes text ≡ date_text clock.now.at.nanosecond) }
@@ -79,7 +79,7 @@ pub(crate) fn text_of_date(alloc: Global, clock: &Moment) -> Result<String, OutO
     text_of_ascii(alloc, &[y, e, a, r, after_year, m, o, after_month, d, i])
 }
 
-/// The date that a clock shows, without dashes, as `20240304`.
+/// Spells the date that a clock shows as `20240304`, without dashes.
 #[tactic(auto, unfolding(bf_moment::specs::Moment::moment_text))]
 pub(crate) fn digits_of_date(alloc: Global, clock: &Moment) -> Result<String, OutOfMemory>
     ensures { IfOk result (λ text. string_bytes text ≡ date_digits clock.now.at.nanosecond) }

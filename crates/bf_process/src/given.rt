@@ -4,7 +4,7 @@ use bf_value::{OutOfMemory, Xval, text_of};
 use bf_xcom::Given;
 use std::alloc::Global;
 
-/// Adds the compact JSON text of a value, or `null` for none. No clause says so.
+/// Adds a value as compact JSON, or `null` for None. No contract covers this.
 fn push_value(alloc: Global, text: &mut String, value: Option<&Xval>) -> Result<(), OutOfMemory> {
     match value {
         Some(value) => text.push_str(text_of(alloc, value)?.as_str())?,
@@ -13,7 +13,7 @@ fn push_value(alloc: Global, text: &mut String, value: Option<&Xval>) -> Result<
     Ok(())
 }
 
-/// Adds `"ID":` and the JSON text of what is pulled from the task with this id. No clause says so.
+/// Adds `"ID":` and, as JSON, what was pulled from the task with this id. No contract covers this.
 fn push_pull(
     alloc: Global,
     text: &mut String,
@@ -26,7 +26,7 @@ fn push_pull(
     push_value(alloc, text, value)
 }
 
-/// The id of a task by its number, empty where there is no such task. No clause says so.
+/// Gives the id of the task with this number; empty where there is no such task. No contract covers this.
 fn id_of(dag: &Dag, task: u32) -> &str {
     match dag.tasks.get(task as usize) {
         Some(task) => task.id.as_str(),
@@ -34,8 +34,8 @@ fn id_of(dag: &Dag, task: u32) -> &str {
     }
 }
 
-/// What the pull at a place, from 0, gives; None where nothing was pulled, or there is no such place. No clause says
-/// so.
+/// Gives what the pull at this place, from 0, gave; None where nothing was pulled, or there is no such place. No
+/// contract covers this.
 fn pulled_at(given: &Given, place: usize) -> Option<&Xval> {
     match given.pulled.get(place) {
         Some(pulled) => pulled.get(),
@@ -43,8 +43,8 @@ fn pulled_at(given: &Given, place: usize) -> Option<&Xval> {
     }
 }
 
-/// What a try was given, as `{"item":..,"pulls":{"ID":..}}` without a line feed: the item of an instance of an
-/// expanded task, and what is pulled from each task; `null` where there is nothing. No clause says so.
+/// Makes the text of what a try was given, `{"item":..,"pulls":{"ID":..}}` without a line feed: the item of an instance
+/// of an expanded task, and what was pulled from each task, `null` for nothing. No contract covers this.
 pub(crate) fn given_text(
     alloc: Global,
     dag: &Dag,

@@ -4,7 +4,7 @@ ghost use Rattle.std.specs.Prelude.{◌≡◌};
 use bf_failure::Detail;
 use bf_try::Raw;
 
-/// What is heard of a program: its raw answer, and what is known beside it.
+/// What was heard of a program: its raw answer, and what is known beside that.
 #[derive(Debug, Drop)]
 pub struct Heard {
     pub raw: Raw,
@@ -12,7 +12,7 @@ pub struct Heard {
 }
 
 impl Heard {
-    /// The answer of a try, of which nothing more is known. The clause speaks of the raw answer alone.
+    /// Makes what was heard of a program of which only the raw answer is known.
     pub(crate) fn without_detail(raw: Raw) -> Heard
         ensures { result.raw ≡ raw }
     {

@@ -9,14 +9,14 @@ use bf_try::Line;
 use bf_value::{OutOfMemory, Sequence, last_line};
 use std::alloc::Global;
 
-/// How many bytes an output may have.
+/// The most bytes of standard output that a try may write.
 pub const LONGEST_OUTPUT: usize = 1_048_576;
 
-/// How many bytes one read may give.
+/// The most bytes that one read gives.
 const ROOM: usize = 8_192;
 
-/// Reads a device to its end, and takes the last line, without its line feed. `TooMuch` for more than 1,048,576
-/// bytes, behind which nothing is read; `ReadFault` where a read fails, and at the 1,001st interruption.
+/// Reads a device to its end and gives the last line, without its line feed. `TooMuch` past `LONGEST_OUTPUT` bytes,
+/// after which it reads no more; `ReadFault` where a read fails or reads are interrupted 1,001 times.
 pub fn line_of<R: Read>(alloc: Global, device: &mut R) -> Result<Line, OutOfMemory>
     ensures line { IfOk result (λ line. IfSome (R.left device.old)
         (λ output. IsLineOf output line)) }

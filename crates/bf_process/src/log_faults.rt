@@ -1,7 +1,7 @@
 //! What went wrong with logs.
 use std::sync::atomic::{AtomicBool, Ordering};
 
-/// What went wrong with the logs of tries, as the threads note it that run them. No clause says what is noted.
+/// What went wrong with the logs of tries, noted by the threads that run these. Contracts don't say what is noted.
 #[derive(Drop)]
 pub struct LogFaults {
     cannot_make: AtomicBool,
@@ -9,7 +9,7 @@ pub struct LogFaults {
 }
 
 impl LogFaults {
-    /// No faults yet.
+    /// Makes the record of no faults yet.
     pub(crate) fn new() -> LogFaults {
         LogFaults {
             cannot_make: AtomicBool::new(false),
@@ -17,22 +17,22 @@ impl LogFaults {
         }
     }
 
-    /// Notes that a log can't be made.
+    /// Notes that a log could not be made.
     pub(crate) fn note_unmade_log(&self) {
         self.cannot_make.store(true, Ordering::SeqCst);
     }
 
-    /// Notes that a log isn't whole.
+    /// Notes that a log lacks a part of what was written to it.
     pub(crate) fn note_incomplete_log(&self) {
         self.lost_some.store(true, Ordering::SeqCst);
     }
 
-    /// Whether a log couldn't be made, so that its try was given up.
+    /// Answers whether a log could not be made, so that its try was given up.
     pub fn has_unmade_log(&self) -> bool {
         self.cannot_make.load(Ordering::SeqCst)
     }
 
-    /// Whether a log that was made isn't whole.
+    /// Answers whether a log that was made lacks a part of what was written to it.
     pub fn has_incomplete_log(&self) -> bool {
         self.lost_some.load(Ordering::SeqCst)
     }

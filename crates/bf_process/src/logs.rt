@@ -7,21 +7,21 @@ use std::fs::{File, OpenOptions};
 use std::io::{ErrorKind, Write};
 use std::{fs, io};
 
-/// The open log of what a try writes to its standard output, and where it is noted that the log isn't whole.
+/// The open log of a try's standard output, and where it is noted that the log lacks a part.
 #[derive(Drop)]
 pub(crate) struct OutputLog<'f> {
     pub(crate) file: File,
     pub(crate) faults: &'f LogFaults,
 }
 
-/// The open logs of a try.
+/// The open logs of a try: of its standard output and of its standard error.
 #[derive(Drop)]
 pub(crate) struct OpenLogs<'f> {
     pub(crate) out: OutputLog<'f>,
     pub(crate) err: File,
 }
 
-/// Whether a folder is at a path; false for a link to one, and where the path can't be looked at.
+/// Answers whether there is a folder at a path; false for a link to one, and where the path can't be examined.
 fn is_folder(files: &HostRuntime, path: &str) -> bool {
     match fs::symlink_metadata(files, path) {
         Ok(there) => there.is_dir(),
@@ -29,7 +29,7 @@ fn is_folder(files: &HostRuntime, path: &str) -> bool {
     }
 }
 
-/// Makes a folder, unless it is there; an error where it can't, as where a link is at the path.
+/// Makes a folder unless it exists; Err where it can't, or where a link or a file stands at the path.
 fn make_folder(files: &HostRuntime, path: &str) -> io::Result<()> {
     if is_folder(files, path) {
         return Ok(());
@@ -41,7 +41,7 @@ fn make_folder(files: &HostRuntime, path: &str) -> io::Result<()> {
     }
 }
 
-/// Makes the folder of all logs, with the folders above it, unless it is there; a link to a folder will do.
+/// Makes the folder of all logs, and those above it, unless it exists; a link to a folder will do.
 fn make_logs_folder(files: &HostRuntime, path: &str) -> io::Result<()> {
     match fs::metadata(files, path) {
         Ok(there) if there.is_dir() => Ok(()),
@@ -49,7 +49,7 @@ fn make_logs_folder(files: &HostRuntime, path: &str) -> io::Result<()> {
     }
 }
 
-/// The path of the folder that holds what is at a path, without the `/` behind it; empty where the path has no `/`.
+/// Gives the path up to its last `/`, without it; empty where the path has no `/`.
 fn folder_of(path: &str) -> &str {
     match path.rsplit_once('/') {
         Some((folder, _)) => folder,
@@ -57,8 +57,8 @@ fn folder_of(path: &str) -> &str {
     }
 }
 
-/// Makes the folders of a log with this path: that of all logs, and below it those of the graph, of the run and of
-/// the task. They are left as they are where they exist.
+/// Makes the folders that a log with this path lies in, unless they exist: that of all logs, and in it those of the
+/// graph, the run and the task.
 fn make_folders_of_log(files: &HostRuntime, path: &str) -> io::Result<()> {
     let task = folder_of(path);
     let run = folder_of(task);
@@ -69,7 +69,7 @@ fn make_folders_of_log(files: &HostRuntime, path: &str) -> io::Result<()> {
     make_folder(files, task)
 }
 
-/// Creates a file at a path and opens it to be written at its end; an error where something is at the path already.
+/// Creates a file at a path and opens it for appending; Err where something is at the path already.
 fn create_log(files: &HostRuntime, path: &str) -> io::Result<File> {
     OpenOptions::new()
         .append(true)
@@ -77,8 +77,8 @@ fn create_log(files: &HostRuntime, path: &str) -> io::Result<File> {
         .open(files, path)
 }
 
-/// Creates an empty file at a path and opens it to be written at its end. What was at the path is removed, and of a
-/// link the link itself.
+/// Creates an empty file at a path and opens it for appending, once it has removed what was there: of a link only the
+/// link itself.
 fn replace_log(files: &HostRuntime, path: &str) -> io::Result<File> {
     match create_log(files, path) {
         Err(error) if error.kind() == ErrorKind::AlreadyExists => {
@@ -89,8 +89,8 @@ fn replace_log(files: &HostRuntime, path: &str) -> io::Result<File> {
     }
 }
 
-/// Writes the file of what a try was given, and creates those of its output and its standard error, with their
-/// folders; an error where one can't be made. No clause says so.
+/// Writes the file of what a try was given, and creates those of its standard output and standard error, with the
+/// folders that they lie in; Err where one can't be made. No contract covers this.
 pub(crate) fn open_logs<'f>(
     files: &HostRuntime,
     logs: &TryLogs,
@@ -105,8 +105,8 @@ pub(crate) fn open_logs<'f>(
     })
 }
 
-/// Adds the system's words for a program that wasn't started to the log of its standard error, as `backfill:
-/// /no/such: No such file or directory`; nothing where it was started. A failed write is told nowhere.
+/// Appends why a program wasn't started to the log of its standard error, in the form `backfill: /no/such: No such file
+/// or directory`; does nothing where it was started. A failed write is ignored.
 pub(crate) fn note_start_fault(files: &HostRuntime, logs: &TryLogs, program: &str, heard: &Heard) {
     let Some(Detail::NotStarted(words)) = &heard.detail else {
         return;

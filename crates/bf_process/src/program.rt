@@ -31,7 +31,7 @@ use std::io::ErrorKind;
 use std::os::unix::process::ExitStatusExt;
 use std::process::{Child, Command, ExitStatus, OpenProcess, Processes, Stdio};
 
-/// The raw answer of a program that wasn't started.
+/// Makes the raw answer of a program that wasn't started.
 pub(crate) fn not_started_raw(alloc: Global) -> Raw
     ensures { result ≡ not_started_raw_of }
 {
@@ -41,7 +41,7 @@ pub(crate) fn not_started_raw(alloc: Global) -> Raw
     }
 }
 
-/// Adds a variable to the environment of a command.
+/// Adds a variable to a command's environment, in place of any of that name.
 fn add_variable(command: &mut Command, name: &str, value: &str) -> Result<(), OutOfMemory>
     ensures variable { OnOk result
         (IsSaidAfter command.old command.new ((name.now, value.now) ∷ [])) }
@@ -51,7 +51,7 @@ fn add_variable(command: &mut Command, name: &str, value: &str) -> Result<(), Ou
     Ok(())
 }
 
-/// Adds the variables that every try has to the environment of a command.
+/// Adds the variables that every try has to a command's environment; `clock` is for the dates among them.
 fn add_common_variables(
     alloc: Global,
     command: &mut Command,
@@ -70,7 +70,7 @@ fn add_common_variables(
     Ok(())
 }
 
-/// Adds the variables of a try to the environment of a command, with `BACKFILL_GIVEN` where logs are kept.
+/// Adds the variables of a try to a command's environment, with `BACKFILL_GIVEN` where logs are kept.
 fn add_environment(
     alloc: Global,
     command: &mut Command,
@@ -87,8 +87,8 @@ fn add_environment(
     }
 }
 
-/// The command of a program with these arguments, which has this process's folder and environment, with the variables
-/// of a try. Its standard error is the file `err`, and without one that of this process.
+/// Makes the command that starts a program with these arguments, in this process's folder and environment, to which the
+/// try's variables are added. Its standard error goes to `err`, or to that of this process for None.
 fn command_of(
     alloc: Global,
     program: &str,
@@ -117,7 +117,7 @@ fn command_of(
     Ok(command)
 }
 
-/// How a program ended, by its status: with a code, or by a signal.
+/// Converts a program's exit status: it ended with a code, or by a signal.
 fn exit_of(status: ExitStatus) -> Exit
     ensures { result ≡ exit_in (exit_code status) }
 {
@@ -127,7 +127,7 @@ fn exit_of(status: ExitStatus) -> Exit
     }
 }
 
-/// The signal that ended a program; None where it ended with a code.
+/// Gives the signal that ended a program; None where it ended with a code.
 fn signal_of(status: ExitStatus) -> Option<Detail>
     ensures { result ≡ option_map (λ number. Detail.Signal number) (exit_signal status) }
 {
@@ -137,7 +137,7 @@ fn signal_of(status: ExitStatus) -> Option<Detail>
     }
 }
 
-/// The system's words for a fault, without the number of the fault behind them, as ` (os error 2)`.
+/// Cuts the number of the fault, such as ` (os error 2)`, off the system's words for it.
 fn without_number(words: &str) -> &str {
     match words.split_once(" (os error ") {
         Some((words, _)) => words,
@@ -145,7 +145,7 @@ fn without_number(words: &str) -> &str {
     }
 }
 
-/// The system's words for why a program wasn't started; None where memory is wanting for them.
+/// Gives the system's words for why a program wasn't started; None at want of memory.
 fn start_fault(alloc: Global, error: &io::Error) -> Option<Detail> {
     let Ok(words) = error.to_string(alloc) else {
         return None;
@@ -156,8 +156,8 @@ fn start_fault(alloc: Global, error: &io::Error) -> Option<Detail> {
     }
 }
 
-/// The last line of what a device gives, all of which is kept in a log, also what is behind the limit of `line_of`,
-/// so that the program that writes it goes on. Notes in `faults` where the log isn't whole.
+/// Gives the last line of a device, as `line_of` does, and copies all that it gives to a log. It reads past the limit
+/// of `line_of` too, so that the writing program goes on. Notes in `faults` where the log lacks a part.
 fn log_and_read_line<R: Read + Drop, W: Write + Drop>(
     alloc: Global,
     device: R,
@@ -175,8 +175,8 @@ fn log_and_read_line<R: Read + Drop, W: Write + Drop>(
     line
 }
 
-/// The last line that a child prints, `ReadFault` without a pipe. The pipe is closed then, so that a child which goes
-/// on printing gets SIGPIPE, unless all that it prints is kept in a log.
+/// Gives the last line that a child prints, `ReadFault` where it has no pipe, and closes the pipe. Without a log it
+/// closes it at the limit of `line_of`, so that a child which prints on gets SIGPIPE.
 fn line_of_child<P: OpenProcess>(
     alloc: Global,
     child: &mut Child<P>,
@@ -196,8 +196,8 @@ fn line_of_child<P: OpenProcess>(
     }
 }
 
-/// What a child answers: how it ended, and the last line that it printed; `GaveUp` where it can't be waited for. It
-/// is waited for also where memory was wanting for the line, since nobody else waits for it.
+/// Gives a child's answer: how it ended, and the last line that it printed. `GaveUp` where it can't be waited for,
+/// `OutOfMemory` at want of memory for the line, but only after waiting, since nobody else would.
 fn heard_of<P: OpenProcess>(
     alloc: Global,
     child: &mut Child<P>,
@@ -228,8 +228,9 @@ fn heard_of<P: OpenProcess>(
     })
 }
 
-/// Starts a program with these arguments for a try, waits for its end, and gives its answer, which says so where it
-/// couldn't be started; `GaveUp` where it can't be waited for. No clause says so.
+/// Starts a program for a try with these arguments, waits for its end and gives its answer, `NotStarted` where it
+/// couldn't be started. `GaveUp` where it can't be waited for, `OutOfMemory` at want of memory. No contract covers
+/// this.
 pub(crate) fn run_program<P: Processes>(
     processes: &P,
     alloc: Global,

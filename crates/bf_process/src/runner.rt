@@ -22,8 +22,8 @@ use bf_xcom::Given;
 use std::alloc::Global;
 use std::marker::Model;
 
-/// Runs each try as the program that the words of its command start, or as the launcher that they are handed to, where there
-/// is one. A try of a task or of a run that isn't there isn't started.
+/// Runs each try as a program: the one that its command names or, where there is one, the launcher, which gets the
+/// command's words as arguments. A try of a task or run that doesn't exist isn't started.
 #[derive(Drop)]
 pub struct ProcessRunner<'s, 'p, 'i, 'l, S> {
     starter: &'s S,
@@ -53,8 +53,8 @@ impl<'s, 'p, 'i, 'l, S> Model for ProcessRunner<'s, 'p, 'i, 'l, S> {
 }
 
 impl<'s, 'p, 'i, 'l, S: Starter> ProcessRunner<'s, 'p, 'i, 'l, S> {
-    /// A runner of the tasks of a plan in these runs, by the launcher and with the logs of `launching`, where there
-    /// are any. It takes no memory before it runs a try.
+    /// Makes a runner of the plan's tasks in these runs, with the launcher and the logs of `launching`. It takes no
+    /// memory before it runs a try.
     pub fn new(
         starter: &'s S,
         alloc: Global,
@@ -79,14 +79,14 @@ impl<'s, 'p, 'i, 'l, S: Starter> ProcessRunner<'s, 'p, 'i, 'l, S> {
         }
     }
 
-    /// What went wrong with the logs of its tries so far.
+    /// Gives what went wrong so far with the logs of this runner's tries.
     pub fn log_faults(&self) -> &LogFaults {
         &self.log_faults
     }
 
-    /// Starts the program that the first of these words names, or the launcher, if there is one, with all of them,
-    /// and gives its answer. Without a word nothing is started, and the status is 0. `GaveUp` where the program is
-    /// lost.
+    /// Starts the program that the first word names with the others as arguments, or the launcher, if there is one,
+    /// with all of them, and gives its answer. Without words nothing is started, and the exit code is 0. `GaveUp` where
+    /// the program is lost.
     fn run_words(&self, words: &[String], setting: &Setting<'_, '_>) -> Result<Heard, RunnerFault>
         ensures heard { IfOk result (λ heard. IfProgram (texts words.now) (heard.raw ≡ nothing_done)
             (S.may_hear self.now.starter (launched_in setting.now
@@ -108,7 +108,7 @@ impl<'s, 'p, 'i, 'l, S: Starter> ProcessRunner<'s, 'p, 'i, 'l, S> {
         }
     }
 
-    /// Where the logs of a try go, and the text of what it is given; None where no logs are kept.
+    /// Gives the paths of a try's logs, and the text of what the try was given; None where no logs are kept.
     fn logs_of_try(
         &self,
         task: &Task,
@@ -126,8 +126,8 @@ impl<'s, 'p, 'i, 'l, S: Starter> ProcessRunner<'s, 'p, 'i, 'l, S> {
         Ok(Some(TryLogs::in_folder(self.alloc, folder, context, given_text)?))
     }
 
-    /// Runs the command of a task for a try in the run with this number, given this, and gives its answer; `GaveUp`
-    /// where its program is lost.
+    /// Runs a task's command for a try in the run with this number, and gives its answer. `GaveUp` where its program is
+    /// lost, `OutOfMemory` at want of memory.
     fn run_command(
         &self,
         task: &Task,
@@ -161,8 +161,8 @@ impl<'s, 'p, 'i, 'l, S: Starter> ProcessRunner<'s, 'p, 'i, 'l, S> {
         self.run_words(words.as_slice(), &setting)
     }
 
-    /// Runs the try of this name, which is given this, and gives its answer: not started, where its task or run isn't
-    /// there. `GaveUp` where its program is lost.
+    /// Runs the try of this name, and gives its answer: `NotStarted` where the plan has no such task or run. `GaveUp`
+    /// where its program is lost, `OutOfMemory` at want of memory.
     fn run_try(&self, name: JobName, given: &Given) -> Result<Heard, RunnerFault>
         ensures ok { IfOk result (λ heard.
             MayAnswer (through self.now.launching (S.may_hear self.now.starter)) self.now.dag
@@ -190,7 +190,7 @@ impl<'s, 'p, 'i, 'l, S: Starter> TaskRunner for ProcessRunner<'s, 'p, 'i, 'l, S>
     ghost may_give_up = { λ s n g. MayGiveUp
         (lost_through s.launching (S.may_lose s.starter)) s.dag s.intervals n g };
 
-    /// Runs the try's program. Where there is no answer the ticket comes back.
+    /// Runs the try's program and gives its answer. At a fault the ticket comes back.
     fn run(&self, ticket: Ticket) -> Result<Done, (Ticket, RunnerFault)> {
         let (done, _) = self.run_in_detail(ticket)?;
         Ok(done)
@@ -198,8 +198,8 @@ impl<'s, 'p, 'i, 'l, S: Starter> TaskRunner for ProcessRunner<'s, 'p, 'i, 'l, S>
 }
 
 impl<'s, 'p, 'i, 'l, S: Starter> DetailedRunner for ProcessRunner<'s, 'p, 'i, 'l, S> {
-    /// Runs the try's program. Beside the answer it gives the signal that ended the program, or the system's words
-    /// for why it wasn't started.
+    /// Runs the try's program and gives its answer with the signal that ended the program, or the system's words for
+    /// why it wasn't started. At a fault the ticket comes back.
     fn run_in_detail(
         &self,
         ticket: Ticket,

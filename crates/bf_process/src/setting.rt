@@ -9,21 +9,21 @@ use bf_value::OutOfMemory;
 use bf_words::JobContext;
 use std::alloc::Global;
 
-/// The paths of the logs of a try, and the text that is written there of what it was given.
+/// The paths of a try's logs, and the text of what the try was given, which is written to one of them.
 #[derive(Debug, Drop)]
 pub struct TryLogs {
-    /// The path of all that it writes to its standard output.
+    /// The path of the log of its standard output.
     pub out: String,
-    /// The path of its standard error.
+    /// The path of the log of its standard error.
     pub err: String,
-    /// The path of what it was given.
+    /// The path of the file that says what it was given.
     pub given: String,
     /// What it was given, as `{"item":..,"pulls":{"ID":..}}`.
     pub given_text: String,
 }
 
 impl TryLogs {
-    /// The paths of the logs of a try below the folder of all logs, and `given_text`, the text of what the try was
+    /// Makes the paths of a try's logs below `folder`, that of all logs; `given_text` is the text of what the try was
     /// given.
     pub fn in_folder(
         alloc: Global,
@@ -48,19 +48,19 @@ impl TryLogs {
     }
 }
 
-/// A try whose program is started, and its logs, where they are kept.
+/// The try that a program is started for, and its logs.
 #[derive(Drop)]
 pub struct Setting<'c, 'l> {
     pub context: &'c JobContext<'c>,
-    /// What the clocks of the graph's zone show at the moment of its run, as a moment of UTC.
+    /// What the clocks of the graph's zone show at the start of its run, written as a moment of UTC.
     pub clock: &'c Moment,
     pub logs: Option<&'l TryLogs>,
-    /// Where it is noted that a log can't be made, or isn't whole.
+    /// Where it is noted that a log could not be made, or lacks a part.
     pub log_faults: &'l LogFaults,
 }
 
 impl<'c, 'l> Setting<'c, 'l> {
-    /// The path of the file that says what the try was given; None where no logs are kept.
+    /// Gives the path of the file that says what the try was given; None where no logs are kept.
     pub fn path_of_given(&self) -> Option<&str>
         ensures { option_map (λ path. path.now) result
             ≡ option_map (λ logs. string_bytes logs.now.given) self.now.logs }

@@ -10,9 +10,9 @@ use crate::setting::Setting;
 use bf_try::RunnerFault;
 use std::alloc::Global;
 
-/// Starts programs and hears them to their end. Its two relations say what may be heard of a program that is started by the
-/// words of a command, of which the first names it, with variables added to the environment of this process; they are a promise
-/// of the starter.
+/// Starts programs and hears them to their end. Its two relations, which it promises to keep, say what may come of a
+/// program that is started with these words, the first of which names it, and with variables added to this process's
+/// environment.
 pub trait Starter {
     ghost use Rattle.bf_try.specs.declared.answers.Raw.{Raw};
     ghost use Rattle.bf_process.specs.Words.{Launched};
@@ -23,8 +23,9 @@ pub trait Starter {
     /// A program that is to be started so may be lost: its logs can't be made, or it can't be waited for.
     ghost may_lose: { Self → Launched → Type 0 };
 
-    /// Makes the logs of a try, starts a program for it, with the try's variables added to the environment, and waits
-    /// for its end. `GaveUp` where a log can't be made, or the program can't be waited for.
+    /// Makes the try's logs, starts a program with the try's variables added to its environment, waits for its end and
+    /// gives its answer. `GaveUp` where a log can't be made or the program can't be waited for, `OutOfMemory` at want
+    /// of memory.
     fn start(
         &self,
         alloc: Global,
@@ -45,8 +46,8 @@ impl Starter for HostRuntime {
 
     ghost may_lose = { λ _ launched. Unit {0} };
 
-    /// Where a log can't be made, this is noted in the setting's `log_faults` and nothing is started: `GaveUp`.
-    /// Without logs the program has this process's standard error.
+    /// Starts a program of this machine. Where a log can't be made, notes that in the setting's `log_faults`, starts
+    /// nothing and gives `GaveUp`. Without logs the program shares this process's standard error.
     fn start(
         &self,
         alloc: Global,

@@ -3,7 +3,8 @@ ghost use Rattle.std.specs.Prelude.{◌≡◌};
 
 use bf_device::{Halt, Read, Write, send};
 
-/// Passes on what a device gives, and writes it to a log. Where the log fails the rest isn't kept, and nothing else changes.
+/// A device that passes on what another gives, and copies it to a log. Once a write to the log fails, the rest isn't
+/// copied; what is passed on stays the same.
 #[derive(Drop)]
 pub(crate) struct Tee<R: Read + Drop, W: Write + Drop> {
     inner: R,
@@ -12,7 +13,7 @@ pub(crate) struct Tee<R: Read + Drop, W: Write + Drop> {
 }
 
 impl<R: Read + Drop, W: Write + Drop> Tee<R, W> {
-    /// A device that gives what another gives, and writes it to a log.
+    /// Makes a device that gives what `inner` gives, and copies it to `log`.
     pub(crate) fn new(inner: R, log: W) -> Tee<R, W>
         ensures { R.left result.inner ≡ R.left inner }
     {
@@ -23,7 +24,7 @@ impl<R: Read + Drop, W: Write + Drop> Tee<R, W> {
         }
     }
 
-    /// Writes bytes to the log, unless a write to it has failed before; notes where this one fails. Nothing is read.
+    /// Writes bytes to the log, and notes where that fails; does nothing once a write has failed.
     fn log_bytes(&mut self, bytes: &[u8])
         ensures { self.new.inner ≡ self.old.inner }
     {
@@ -32,12 +33,12 @@ impl<R: Read + Drop, W: Write + Drop> Tee<R, W> {
         }
     }
 
-    /// Whether a write to the log has failed. No clause says so.
+    /// Answers whether a write to the log has failed. No contract covers this.
     pub(crate) fn has_failed(&self) -> bool {
         self.failed
     }
 
-    /// Reads what is left, to the end or to a read that fails, and writes it to the log. No clause says so.
+    /// Reads what is left, up to the end or a failed read, and copies it to the log. No contract covers this.
     pub(crate) fn drain(&mut self) {
         let mut room = [0; 8_192];
         for _ in 0..u64::MAX {
@@ -56,7 +57,7 @@ impl<R: Read + Drop, W: Write + Drop> Read for Tee<R, W> {
 
     ghost failures = { λ t. R.failures t.inner };
 
-    /// Reads from the device, and writes what it gave to the log, unless a write to the log has failed before.
+    /// Reads from the device, and copies what it gave to the log, unless a write to the log has failed before.
     fn read(&mut self, room: &mut [u8]) -> Result<usize, Halt> {
         match self.inner.read(room) {
             Ok(count) => {

@@ -8,20 +8,20 @@ use bf_value::OutOfMemory;
 use bf_words::JobContext;
 use std::alloc::Global;
 
-/// A variable of a try's environment. The last four are those of Airflow ("Templates and Environment variables" of its operators).
+/// A variable of a try's environment. The last four are those that Airflow's operators set.
 #[derive(Clone, Copy, Debug, PartialEq, Eq)]
 pub enum Variable {
     DagId,
     TaskId,
-    /// The run's moment, which is its logical date.
+    /// The run's logical date, which is the start of its data interval.
     Run,
-    /// The date of that moment in the zone of the graph, as 2024-03-04.
+    /// The date that the graph's zone has at that moment, as 2024-03-04.
     Date,
-    /// The same, as 20240304.
+    /// The same date, as 20240304.
     DateNodash,
     IntervalStart,
     IntervalEnd,
-    /// -1 for an unmapped task.
+    /// -1 for the instance of a task that isn't expanded.
     MapIndex,
     /// From 1.
     TryNumber,
@@ -31,7 +31,7 @@ pub enum Variable {
     AirflowTryNumber,
 }
 
-/// All of them.
+/// All variables of a try but `BACKFILL_GIVEN`.
 static VARIABLES: [Variable; 13] = [
     Variable::DagId,
     Variable::TaskId,
@@ -48,7 +48,7 @@ static VARIABLES: [Variable; 13] = [
     Variable::AirflowTryNumber,
 ];
 
-/// All variables that a try's environment has, beside `BACKFILL_GIVEN`.
+/// Gives all variables of a try but `BACKFILL_GIVEN`, which is set only where logs are kept.
 pub(crate) fn variables() -> &'static [Variable]
     ensures { result.now ≡ variables_of }
 {
@@ -56,7 +56,7 @@ pub(crate) fn variables() -> &'static [Variable]
 }
 
 impl Variable {
-    /// Its name, as `BACKFILL_DAG_ID`.
+    /// Gives the variable's name, such as `BACKFILL_DAG_ID`.
     pub fn name(self) -> &'static str
         ensures { result.now ≡ variable_name self }
     {
@@ -77,8 +77,8 @@ impl Variable {
         }
     }
 
-    /// Its value for a try; `clock` is what the clocks of the graph's zone show at the moment of the try's run, for
-    /// the date. Moments are spelled as `2024-02-14T00:00:00Z`.
+    /// Gives the variable's value for a try, moments as `2024-02-14T00:00:00Z`. `clock` is what the clocks of the
+    /// graph's zone show at the start of the try's run, from which the dates come.
     pub fn value(
         self,
         alloc: Global,

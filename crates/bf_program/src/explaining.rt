@@ -18,7 +18,7 @@ use bf_quoted::push_shown_value;
 use bf_value::OutOfMemory;
 use std::alloc::Global;
 
-/// Adds the line of a finding, with its line feed.
+/// Appends one finding to `text` as a line, with the characters escaped that a terminal doesn't show as themselves.
 fn push_finding(alloc: Global, text: &mut String, finding: &Finding) -> Result<(), OutOfMemory>
     ensures { OnOk result (string_bytes text.new ≡ string_bytes text.old
         ++ finding_line finding.now) }
@@ -29,7 +29,7 @@ fn push_finding(alloc: Global, text: &mut String, finding: &Finding) -> Result<(
     Ok(())
 }
 
-/// The text of findings, a line for each; empty where there are none.
+/// Gives one line for each finding, in their order; empty where there are none.
 fn text_of_findings(alloc: Global, found: &[Finding]) -> Result<String, OutOfMemory>
     ensures { IfOk result (λ text. string_bytes text ≡ findings_text found.now) }
 {
@@ -40,8 +40,8 @@ fn text_of_findings(alloc: Global, found: &[Finding]) -> Result<String, OutOfMem
     Ok(text)
 }
 
-/// Reads the graph file, and the zone file where one is named, and gives what is wrong with the graph, a line for
-/// each finding. A fault where a file can't be read.
+/// Reads the graph file, and the zone file where one is named, and lists what is wrong with the graph, one line for
+/// each finding. `Err` where a file can't be read, or at want of memory.
 fn read_explanation<S: Source>(
     alloc: Global,
     asked: GraphAsked,
@@ -56,8 +56,8 @@ fn read_explanation<S: Source>(
     Ok(text)
 }
 
-/// Reads the graph's files, and writes to standard error what is wrong with the graph. A fault where a file can't be
-/// read.
+/// Reads the graph's files and writes what is wrong with the graph to `err`. `Err`, and nothing is written, where a
+/// file can't be read or at want of memory. A write that fails is no error.
 fn tell_findings<S: Source, E: Write>(
     alloc: Global,
     asked: GraphAsked,
@@ -75,8 +75,8 @@ fn tell_findings<S: Source, E: Write>(
     Ok(())
 }
 
-/// Reads the graph's files and writes to standard error what is wrong with the graph, where `check` asks for that;
-/// else does nothing.
+/// Where `asked` has `--explain`, reads the graph's files and writes what is wrong with the graph to `err`; else does
+/// nothing. `Err`, and nothing is written, where a file can't be read or at want of memory.
 fn explain_asked_check<S: Source, E: Write>(
     alloc: Global,
     asked: CheckAsked,
@@ -97,8 +97,8 @@ fn explain_asked_check<S: Source, E: Write>(
     }
 }
 
-/// Reads the graph's files and writes to standard error what is wrong with the graph, where the command is `check
-/// --explain`; else does nothing.
+/// Where the command is `check --explain`, reads the graph's files and writes what is wrong with the graph to `err`;
+/// else does nothing. `Err`, and nothing is written, where a file can't be read or at want of memory.
 #[tactic(auto, using(crate::proofs::Unasked::unasked))]
 fn explain_command<S: Source, E: Write>(
     alloc: Global,
@@ -121,9 +121,9 @@ fn explain_command<S: Source, E: Write>(
     }
 }
 
-/// Writes to standard error what is wrong with a graph, at most a hundred findings, where the command line is `check
-/// --explain`. Reads the graph's files again. Nothing is written for a wrong line, or where a file can't be read or
-/// memory is wanting.
+/// Where the line is `check --explain`, reads the graph's files and writes what is wrong with the graph to `err`, at
+/// most a hundred findings; does nothing for other commands. `Err`, and nothing is written, where a file can't be read,
+/// at want of memory, and as that too where the line is wrong or asks for help.
 pub fn explain_check<S: Source, E: Write>(
     alloc: Global,
     words: &[String],

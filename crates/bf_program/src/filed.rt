@@ -20,7 +20,7 @@ use std::sync::Wait;
 use std::thread::Threads;
 use std::time::Clock;
 
-/// The fault of a command where the file at this path can't be replaced.
+/// Gives the command's fault where `--out` can't replace the file at `path`: `CannotWriteFile`, or want of memory.
 fn fault_of_replacing(fault: ReplaceFault, path: String) -> CommandFault
     ensures { result ≡ replacing_fault (string_bytes path) fault }
 {
@@ -30,9 +30,9 @@ fn fault_of_replacing(fault: ReplaceFault, path: String) -> CommandFault
     }
 }
 
-/// The fault of a command whose text was to replace the file at this path: where a write failed that of the file, for
-/// this reason, and else its own.
-fn fault_at_file(fault: CommandFault, reason: ReplaceFault, path: String) -> CommandFault
+/// Gives the command's fault where its text was to replace the file at `path`. A failed write becomes `CannotWriteFile`
+/// or want of memory, by `reason`; any other fault stays as it is.
+fn fault_of_filed_command(fault: CommandFault, reason: ReplaceFault, path: String) -> CommandFault
     ensures { result ≡ filed_fault (string_bytes path) reason fault }
 {
     match fault {
@@ -41,8 +41,8 @@ fn fault_at_file(fault: CommandFault, reason: ReplaceFault, path: String) -> Com
     }
 }
 
-/// Does a command, whose text replaces the file at `path`, whole or not at all. Checks that the file can be replaced
-/// before anything is read.
+/// Does a command whose text replaces the file at `path`, whole or not at all. Begins the new file before it reads any
+/// other, so a path that can't be replaced is refused first. At `Err` the old file is still there.
 #[tactic(auto, using(crate::proofs::FiledReports::filing))]
 pub(crate) fn answer_to_file<RT, J: Journals + Launchers, S: Source, F: Folder>(
     rt: &RT,
@@ -81,7 +81,7 @@ where
         },
         Err(fault) => {
             let reason = discard_page(folder, page);
-            Err(fault_at_file(fault, reason, path))
+            Err(fault_of_filed_command(fault, reason, path))
         }
     }
 }

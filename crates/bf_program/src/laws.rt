@@ -21,8 +21,8 @@ use bf_answers::{reports_are_made_again, tables_are_read_back};
 use bf_cells::own_letters_have_no_digit;
 use bf_try::TaskRunner;
 
-/// Over the table that `answers` prints of the report of a backfill, whatever runner answered its tries, `dry` of the
-/// same graph and range prints that report, byte for byte.
+/// Proves that `dry` prints a backfill's report again, byte for byte and with the same success: of the same graph and
+/// range, over the table that `answers` makes of that report, whatever runner made its tries.
 pub fn reports_are_printed_again<R: TaskRunner>(runner: &R)
     ensures { (graph : List ℕ) (file : Option (List ℕ)) (range : RunRange) (draft : Draft)
         (found : List Interval)
@@ -36,7 +36,8 @@ pub fn reports_are_printed_again<R: TaskRunner>(runner: &R)
     reports_are_made_again();
 }
 
-/// On the page of a report that a backfill of the graph printed, no digit stands among the letters of a run.
+/// Proves that on the page of a report that a backfill of the same graph printed, no digit stands among the letters of
+/// a run.
 pub fn own_pages_have_no_digit()
     ensures { (graph : List ℕ) (zone : Option (List ℕ)) (draft : Draft)
         → IsGraph graph zone draft

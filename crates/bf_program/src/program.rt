@@ -34,11 +34,10 @@ use std::sync::Wait;
 use std::thread::Threads;
 use std::time::Clock;
 
-/// Answers a command line, whose first word is the program's own name. Files are read from `files`; what was asked
-/// for goes to `out`, or a report for which a file is named to that file in `folder`, and why there is none to `err`.
-/// Width and colours of a grid are the line's, or else the canvas's. Gives the exit status: 0 where every run is a
-/// success, a graph has no fault, the intervals were listed, or a text was asked for, 1 where some run failed, 2
-/// where something was refused, and 3 at a fault.
+/// Answers a command line, whose first word is the program's own name: writes its text to `out`, or with `--out` to a
+/// file in `folder`, and why there is none to `err`. `canvas` has the width and colours of a grid where the line
+/// doesn't. Gives the exit status: 0 where all is done and every run succeeded, 1 where a run failed, 2 for a refusal,
+/// and 3 where the machine failed or a backfill stopped early.
 #[tactic(auto, using(crate::proofs::Ends::fault_ends))]
 pub fn answer<RT, J: Journals + Launchers, S: Source, F: Folder, W: Write, E: Write>(
     rt: &RT,
@@ -99,8 +98,9 @@ where
     }
 }
 
-/// Answers a command line, whose first word is the program's own name: does its command, or writes `clap`'s help to
-/// `out` or its refusal to `err`. A fault is given, and not told yet.
+/// Does what a command line asks, whose first word is the program's own name; writes `clap`'s help to `out`, and what
+/// is wrong with the line to `err`. `Err` where the command is refused or fails, or the help can't be written; `err` is
+/// left as it was then, so that the caller can tell the fault.
 fn answer_line<RT, J: Journals + Launchers, S: Source, F: Folder, W: Write, E: Write>(
     rt: &RT,
     alloc: Global,
@@ -152,8 +152,8 @@ where
     }
 }
 
-/// Does a command with its files, threads and programs, and writes its text to `out`. A fault is given, and not told
-/// yet.
+/// Does a command and writes its text to `out`. `Err` where it is refused or fails; that isn't told yet. At `Err`,
+/// `out` got nothing but the bytes that `CannotWrite` counts.
 pub(crate) fn answer_command<RT, J: Journals + Launchers, S: Source, W: Write>(
     rt: &RT,
     alloc: Global,
@@ -198,8 +198,8 @@ where
     }
 }
 
-/// Writes `clap`'s words: help to standard output, with the status success, and what is wrong with the line to
-/// standard error, with the status refused. A fault where memory is wanting or the help can't be written.
+/// Writes `clap`'s help or version to `out`, with `Success`, or what is wrong with the line to `err`, with `Refused`.
+/// `Err` at want of memory, or where `out` fails; nothing goes to `err` then.
 fn show_clap_error<W: Write, E: Write>(
     alloc: Global,
     error: &Error,
@@ -234,8 +234,8 @@ fn show_clap_error<W: Write, E: Write>(
     Ok(Status::Success)
 }
 
-/// Writes the line of a fault to standard error, and gives its exit status; line and status of want of memory where
-/// there is none for its own line.
+/// Writes the line of a fault to `err`, and gives its exit status. Without memory for that line, says
+/// `fault: out of memory` and gives `Fault`.
 fn tell_fault<E: Write>(alloc: Global, fault: &CommandFault, err: &mut E) -> Status
     ensures tells { MayTell (HasHalted (E.failures err.old) (E.failures err.new)
         (E.interruptions err.old) (E.interruptions err.new))
@@ -255,7 +255,7 @@ fn tell_fault<E: Write>(alloc: Global, fault: &CommandFault, err: &mut E) -> Sta
     }
 }
 
-/// Writes a text to standard error. Where that fails, nothing is left to say so on.
+/// Writes a line to standard error. Ignores a failure, since nothing is left to say so on.
 pub(crate) fn tell_line<E: Write>(err: &mut E, line: &[u8])
     ensures { IsTold (HasHalted (E.failures err.old) (E.failures err.new)
         (E.interruptions err.old) (E.interruptions err.new))

@@ -10,7 +10,7 @@ use bf_command_line::{Format, Shell};
 use bf_device::{Write, send};
 use bf_texts::{completions, schemas};
 
-/// The text of the JSON Schema of a format's files.
+/// Gives the JSON Schema of graph files or of tables.
 fn schema_of(format: Format) -> &'static str
     ensures { result.now ≡ schema_text format }
 {
@@ -20,7 +20,7 @@ fn schema_of(format: Format) -> &'static str
     }
 }
 
-/// The text by which a shell completes command lines.
+/// Gives the script by which a shell completes command lines.
 fn completions_of(shell: Shell) -> &'static str
     ensures { result.now ≡ completions_text shell }
 {
@@ -31,7 +31,7 @@ fn completions_of(shell: Shell) -> &'static str
     }
 }
 
-/// Writes a fixed text; gives success, or a fault where it can't be written.
+/// Writes a fixed text and gives `Success`. `Err` where `out` fails, with how many bytes went out.
 fn print_text<W: Write>(text: &str, out: &mut W) -> Result<Status, CommandFault>
     ensures answer { IfOk result (λ status. Sends (λ sent. IsPrinted text.now sent status)
         (W.written out.old) (W.written out.new)) }
@@ -45,7 +45,8 @@ fn print_text<W: Write>(text: &str, out: &mut W) -> Result<Status, CommandFault>
     Ok(Status::Success)
 }
 
-/// Does the command `schema`: writes the JSON Schema of a format's files.
+/// Does the command `schema`: writes the JSON Schema of a format's files. `Err` where `out` fails, with how many bytes
+/// went out.
 pub fn answer_schema<W: Write>(format: Format, out: &mut W) -> Result<Status, CommandFault>
     ensures answer { IfOk result (λ status. Sends
         (λ text. IsPrinted (schema_text format) text status) (W.written out.old)
@@ -59,7 +60,8 @@ pub fn answer_schema<W: Write>(format: Format, out: &mut W) -> Result<Status, Co
     print_text(schema_of(format), out)
 }
 
-/// Does the command `completions`: writes the text by which a shell completes command lines.
+/// Does the command `completions`: writes the script by which a shell completes command lines. `Err` where `out` fails,
+/// with how many bytes went out.
 pub fn answer_completions<W: Write>(shell: Shell, out: &mut W) -> Result<Status, CommandFault>
     ensures answer { IfOk result (λ status. Sends
         (λ text. IsPrinted (completions_text shell) text status) (W.written out.old)

@@ -5,14 +5,14 @@ ghost use Rattle.bf_progress.specs.inner.Due.{is_other};
 use bf_value::{JobName, OutOfMemory};
 use std::time::Duration;
 
-/// A try that runs, and when it began by the monotonic clock.
+/// A running try, and when it began by the monotonic clock.
 #[derive(Clone, Copy, Debug, Drop)]
 pub(crate) struct Begun {
     pub(crate) name: JobName,
     pub(crate) at: Duration,
 }
 
-/// Adds a try that has begun to those that run. Where memory is wanting, nothing changes.
+/// Adds a try that has begun to the running ones. At want of memory these stay as they were.
 pub(crate) fn push_begun(running: &mut Vec<Begun>, begun: Begun) -> Result<(), OutOfMemory>
     ensures ok { OnOk result (running.new.items ≡ running.old.items ++ begun ∷ []) }
     ensures err { OnErr result (running.new.items ≡ running.old.items) }
@@ -22,7 +22,7 @@ pub(crate) fn push_begun(running: &mut Vec<Begun>, begun: Begun) -> Result<(), O
     Ok(())
 }
 
-/// Removes a try that has ended from those that run.
+/// Removes the try of this name, which has ended, from the running ones.
 pub(crate) fn remove_ended(running: &mut Vec<Begun>, name: JobName)
     ensures { running.new.items ≡ filter (is_other name) running.old.items }
 {

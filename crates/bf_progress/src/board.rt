@@ -10,10 +10,11 @@ use bf_value::OutOfMemory;
 use std::alloc::Global;
 use std::time::Duration;
 
-/// After so many seconds without an event, and as many more each time, the try that runs longest is told.
+/// How many seconds pass without an event before the longest running try is shown, and before it is shown again.
 const MINUTE: u64 = 60;
 
-/// How far a backfill is, what runs, and what of that was told. Moments are the monotonic clock's.
+/// The state of the progress display: the counts, the running tries, and when each was shown last. All times are by the
+/// monotonic clock.
 #[derive(Drop)]
 pub(crate) struct Board {
     pub(crate) counts: Counts,
@@ -21,16 +22,16 @@ pub(crate) struct Board {
     pub(crate) running: Vec<Begun>,
     /// Whether an event has come since the counts were shown.
     pub(crate) has_changed: bool,
-    /// When the counts were shown last, or the backfill began.
+    /// When the counts were shown last; before that, when the backfill began.
     pub(crate) shown: Duration,
-    /// When an event came last, or the backfill began.
+    /// When an event came last; before that, when the backfill began.
     pub(crate) changed: Duration,
-    /// For how many minutes since then it was told what runs longest.
+    /// How many whole minutes after `changed` the longest running try was shown last; 0 where it wasn't.
     pub(crate) minutes: u64,
 }
 
 impl Board {
-    /// The board of a backfill that begins at `now`, before its first event.
+    /// Makes the board of a backfill that begins at `now`, before its first event.
     pub(crate) fn new(alloc: Global, counts: Counts, now: Duration) -> Board
         ensures running { result.running.items ≡ [] }
         ensures moments { (result.shown ≡ now) × (result.changed ≡ now) × (result.minutes ≡ 0) }
@@ -46,8 +47,8 @@ impl Board {
         }
     }
 
-    /// Notes a try that begins at `now` as running, and one that ends no more; nothing for other events. Where memory
-    /// is wanting for one that begins, it isn't noted.
+    /// Adds a try that begins at `now` to the running ones, or removes one that ends; does nothing for other events. At
+    /// want of memory the running tries stay as they were.
     fn note_try(&mut self, event: &Event, now: Duration) -> Result<(), OutOfMemory>
         ensures ok { OnOk result (self.new.running.items
             ≡ running_after event.now now self.old.running.items) }
@@ -70,8 +71,8 @@ impl Board {
         }
     }
 
-    /// Notes that an event came to the backfill at `now`, and that `running` tries run then. Of a tick nothing is
-    /// noted.
+    /// Notes an event that came at `now`, after which `running` tries run. Ignores ticks. At want of memory a try that
+    /// begins isn't noted as running, though it is counted.
     pub(crate) fn note_event(&mut self, event: &Event, core: &Core<'_>, running: u32, now: Duration)
         ensures running { IsRunningAfter event.now now self.old.running.items
             self.new.running.items }
@@ -88,22 +89,24 @@ impl Board {
         self.minutes = 0;
     }
 
-    /// Whether by `now` more whole minutes have gone by without an event than the longest running try was told for.
+    /// Answers whether at `now` more whole minutes have passed since the last event than when the longest running try
+    /// was last shown.
     fn is_minute_over(&self, now: Duration) -> bool
         ensures { result ≡ is_minute_over_in self.now now }
     {
         self.minutes < seconds_between(self.changed, now) / MINUTE
     }
 
-    /// Whether the counts are to be shown at `now`: at least a whole second after they were, where an event has come
-    /// since, or a terminal keeps their line (`keeps_line`), whose place other lines may have taken.
+    /// Answers whether the counts are due at `now`: at least a second has passed since they were shown, and an event
+    /// has come since, or a terminal keeps their line (`keeps_line`), which other lines may have overwritten.
     fn is_line_due(&self, now: Duration, keeps_line: bool) -> bool
         ensures { result ≡ is_line_due_in self.now now keeps_line }
     {
         (self.has_changed || keeps_line) && 0 < seconds_between(self.shown, now)
     }
 
-    /// What is to be told at `now`; `keeps_line` where a terminal keeps the line of the counts.
+    /// Gives what is due at `now`; the longest running try comes before the counts. `keeps_line` where a terminal keeps
+    /// the line of the counts.
     pub(crate) fn due(&self, now: Duration, keeps_line: bool) -> Due
         ensures { result ≡ due_of self.now now keeps_line }
     {
@@ -114,7 +117,7 @@ impl Board {
         }
     }
 
-    /// Notes that this, which is due at `now`, is told.
+    /// Notes that `due` was shown at `now`.
     pub(crate) fn note_told(&mut self, due: Due, now: Duration)
         ensures { self.new ≡ shown_of self.old due now }
     {

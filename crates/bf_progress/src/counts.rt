@@ -8,20 +8,20 @@ use bf_value::{JobName, OutOfMemory};
 use std::alloc::Global;
 use std::fmt;
 
-/// How far a backfill is. No clause says what is counted.
+/// How far a backfill is. Contracts don't say what is counted.
 #[derive(Clone, Copy, Debug, Drop)]
 pub(crate) struct Counts {
-    /// Of so many runs so many were opened, and so many of these closed.
+    /// All runs, and how many of them were opened and closed.
     pub(crate) runs: u64,
     pub(crate) opened: u64,
     pub(crate) closed: u64,
-    /// Of so many tasks, in all runs together, so many are settled.
+    /// All tasks of all runs together, and how many of them are settled.
     pub(crate) tasks: u64,
     pub(crate) settled: u64,
-    /// So many tries run, and so many wait.
+    /// How many tries run, and how many wait.
     pub(crate) running: u32,
     pub(crate) waiting: u64,
-    /// So many instances failed, with no try left.
+    /// How many instances failed, with no try left.
     pub(crate) failed: u64,
 }
 
@@ -32,6 +32,7 @@ impl fmt::Display for Counts {
 
     ghost output = { λ counts. Some (counts_text counts) };
 
+    /// Writes the counts, in the form `runs 12/90 (4 open)  tasks 431/1800  running 8  waiting 3  failed 2`.
     fn fmt<W: fmt::Write>(&self, f: &mut fmt::Formatter<W>) -> fmt::Result {
         let open = self.opened.saturating_sub(self.closed);
         write!(f, "runs {}/{} ({open} open)", self.closed, self.runs)?;
@@ -42,7 +43,7 @@ impl fmt::Display for Counts {
 }
 
 impl Counts {
-    /// The counts before the first event, of so many runs with so many tasks each. No clause says so.
+    /// Makes the counts before the first event, for so many runs with so many tasks each. No contract covers this.
     pub(crate) fn new(runs: usize, tasks: usize) -> Counts {
         let (runs, tasks) = (runs as u64, tasks as u64);
         Counts {
@@ -57,7 +58,8 @@ impl Counts {
         }
     }
 
-    /// Counts what the decision of a task in a run changes, as the core has it after that. No clause says so.
+    /// Counts the decision of a task in a run: the tries that now wait, and the task where it is settled. `core` has
+    /// taken the decision in already. No contract covers this.
     fn note_decision(&mut self, core: &Core<'_>, run: u32, task: u32) {
         if let Some(Cell::Ran(instances)) = core.cell(run, task) {
             self.waiting = self.waiting.saturating_add(instances.len() as u64);
@@ -65,7 +67,8 @@ impl Counts {
         self.note_settled(core, run, task);
     }
 
-    /// Counts what the end of a try changes, as the core has it after the end. No clause says so.
+    /// Counts the end of a try: a further try that waits, or an instance that failed for good, and the task where it is
+    /// settled. `core` has taken the end in already. No contract covers this.
     fn note_end(&mut self, core: &Core<'_>, name: JobName) {
         match core.instance(name) {
             Some(instance) => match instance.phase {
@@ -78,14 +81,14 @@ impl Counts {
         self.note_settled(core, name.run, name.task);
     }
 
-    /// Counts a task that is settled in a run, once the event that settled it has come. No clause says so.
+    /// Counts the task where it is settled in the run. No contract covers this.
     fn note_settled(&mut self, core: &Core<'_>, run: u32, task: u32) {
         if core.is_settled(run, task) {
             self.settled = self.settled.saturating_add(1);
         }
     }
 
-    /// Counts what an event changes that has come to the core already. No clause says so.
+    /// Counts what an event changes; `core` has taken the event in already. No contract covers this.
     pub(crate) fn note_event(&mut self, event: &Event, core: &Core<'_>) {
         match event {
             Event::Open => self.opened = self.opened.saturating_add(1),
@@ -100,15 +103,15 @@ impl Counts {
     }
 }
 
-/// The line that says the counts, with its line feed.
+/// Makes the line of the counts, with its line feed.
 pub(crate) fn line_of_counts(alloc: Global, counts: &Counts) -> Result<String, OutOfMemory>
     ensures { IfOk result (λ line. string_bytes line ≡ counts_line counts.now) }
 {
     Ok(format!(in alloc; "{counts}\n")?)
 }
 
-/// The line of the counts that a terminal keeps, without a line feed. Escape sequences round it let the terminal cut
-/// it at its own width.
+/// Makes the line of the counts for a terminal, which overwrites it each time: without a line feed, and in escape
+/// sequences that turn line wrapping off and on again.
 pub(crate) fn terminal_line_of_counts(alloc: Global, counts: &Counts) -> Result<String, OutOfMemory>
     ensures { IfOk result (λ line. string_bytes line ≡ kept_line counts.now) }
 {

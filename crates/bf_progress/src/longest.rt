@@ -7,8 +7,8 @@ use bf_value::OutOfMemory;
 use bf_words::JobContext;
 use std::alloc::Global;
 
-/// The line of a try that has run for so many seconds, as `running for 3600 s: crawl 2024-01-01T05:00:00Z try 1` with
-/// its line feed; of an instance of an expanded task it has the index too (`try_text`).
+/// Makes the line of the longest running try, with its line feed, in the form `running for 3600 s: crawl
+/// 2024-01-01T05:00:00Z try 1`; an instance of an expanded task has its map index too (`try_text`).
 pub(crate) fn longest_line(
     alloc: Global,
     seconds: u64,

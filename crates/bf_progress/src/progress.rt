@@ -17,10 +17,11 @@ use std::sync::{Mutex, Wait};
 use std::thread::Parker;
 use std::time::{Clock, Duration};
 
-/// The time between two looks at what is to be told, in seconds.
+/// How many seconds pass between two looks at what is due.
 const PAUSE: u64 = 1;
 
-/// How far a backfill is, as its thread notes it and another tells it. No clause says what is noted or told.
+/// The progress of a backfill, noted by the thread that runs it and shown by another. Contracts don't say what is noted
+/// or shown.
 #[derive(Drop)]
 pub struct Progress<'a, RT> {
     rt: &'a RT,
@@ -29,13 +30,13 @@ pub struct Progress<'a, RT> {
     runs: &'a Runs,
     board: Mutex<Board>,
     has_ended: AtomicBool,
-    /// Is rung when the backfill has ended.
+    /// Wakes the showing thread when the backfill has ended.
     bell: Parker,
 }
 
 impl<'a, RT: Screen + Wait + Clock> Progress<'a, RT> {
-    /// The progress of a backfill of a plan over these runs, before its first event, which begins now by the
-    /// monotonic clock, at zero where that doesn't answer. No clause says so.
+    /// Makes the progress of a backfill of this plan and runs that begins now, before its first event. No contract
+    /// covers this.
     pub fn new(rt: &'a RT, alloc: Global, plan: &'a Plan, runs: &'a Runs) -> Progress<'a, RT> {
         let counts = Counts::new(runs.count(), plan.dag().tasks.len());
         let now = rt.monotonic().unwrap_or(Duration::ZERO);
@@ -50,20 +51,20 @@ impl<'a, RT: Screen + Wait + Clock> Progress<'a, RT> {
         }
     }
 
-    /// The present moment of the runtime's monotonic clock, by which seconds and minutes are counted; zero where the
-    /// clock doesn't answer. No clause says so.
+    /// Gives the present moment by the runtime's monotonic clock; zero where the clock doesn't answer. No contract
+    /// covers this.
     fn now(&self) -> Duration {
         self.rt.monotonic().unwrap_or(Duration::ZERO)
     }
 
-    /// Notes that an event has come to the backfill, and that so many tries run now.
+    /// Notes an event, after which `running` tries run; `core` has taken the event in already. Shows nothing itself.
     pub fn note_event(&self, event: &Event, core: &Core<'_>, running: u32) {
         let now = self.now();
         let mut board = self.board.lock(self.rt);
         board.note_event(event, core, running, now);
     }
 
-    /// Tells once a second what is due, until the backfill has ended.
+    /// Shows what is due, once a second, until `stop_telling` is called.
     pub fn tell_until_ended(&self) {
         for _ in self.rt.forever() {
             self.bell.park_timeout(self.rt, Duration::from_secs(PAUSE));
@@ -74,14 +75,14 @@ impl<'a, RT: Screen + Wait + Clock> Progress<'a, RT> {
         }
     }
 
-    /// Says to the thread that tells that nothing more is due: the backfill has ended, or was stopped.
+    /// Lets `tell_until_ended` return: the backfill has ended, or was stopped.
     pub fn stop_telling(&self) {
         self.has_ended.store(true, Ordering::SeqCst);
         self.bell.unpark();
     }
 
-    /// Shows a last time how far the backfill is, on a line of its own, with no try running: where the backfill was
-    /// stopped, the ends of its last tries were noted by nobody.
+    /// Shows the counts a last time, on a line of their own and with no try running: where the backfill was stopped,
+    /// nothing noted the ends of its last tries.
     pub fn show_last(&self) {
         let counts = Counts {
             running: 0,
@@ -90,13 +91,13 @@ impl<'a, RT: Screen + Wait + Clock> Progress<'a, RT> {
         self.show(line_of_counts(self.alloc, &counts));
     }
 
-    /// The counts as they are now. Waits for the lock of the board.
+    /// Gives the counts as they are now, once it has the lock of the board.
     fn counts(&self) -> Counts {
         let board = self.board.lock(self.rt);
         board.counts
     }
 
-    /// What is due at `now`, which is noted as told, and how far the backfill is. `keeps_line` where a terminal keeps
+    /// Gives what is due at `now`, notes it as shown, and gives the counts with it. `keeps_line` where a terminal keeps
     /// the line of the counts.
     fn take_due(&self, now: Duration, keeps_line: bool) -> (Due, Counts) {
         let mut board = self.board.lock(self.rt);
@@ -105,7 +106,7 @@ impl<'a, RT: Screen + Wait + Clock> Progress<'a, RT> {
         (due, board.counts)
     }
 
-    /// Tells what is due. No lock is held while it is written.
+    /// Shows what is due now. The lock of the board isn't held while it is written.
     fn tell_due(&self) {
         let now = self.now();
         let keeps_line = self.rt.is_terminal();
@@ -119,15 +120,15 @@ impl<'a, RT: Screen + Wait + Clock> Progress<'a, RT> {
         }
     }
 
-    /// Tells a line. Where memory was wanting for it, nothing is told.
+    /// Shows a line; does nothing where memory was wanting for it.
     fn show(&self, line: Result<String, OutOfMemory>) {
         if let Ok(line) = line {
             tell_line(self.rt, self.alloc, line.as_str());
         }
     }
 
-    /// Tells for how long the try that runs longest, `begun`, has run at `now`; nothing where its task or run isn't
-    /// there.
+    /// Shows how long `begun`, the longest running try, has run at `now`; does nothing where the plan has no such task
+    /// or run.
     fn tell_longest(&self, begun: &Begun, now: Duration) {
         let Some(context) = context_of(self.plan, self.runs, begun.name) else {
             return;

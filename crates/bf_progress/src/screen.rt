@@ -7,30 +7,30 @@ use bf_value::OutOfMemory;
 use std::alloc::Global;
 use std::io::IsTerminal;
 
-/// Shows how far a backfill is, beside what it prints.
+/// Where progress is shown, apart from what a backfill prints.
 pub trait Screen {
-    /// Whether it is a terminal, on which a line can be written over.
+    /// Answers whether this is a terminal, on which a line can be overwritten.
     fn is_terminal(&self) -> bool;
 
-    /// Shows a text by one write. Where that fails, nothing is left to say so on.
+    /// Shows a text in one write. A failure is ignored: there is nowhere left to report it.
     fn show(&self, text: &str);
 }
 
 /// Standard error.
 impl Screen for HostRuntime {
-    /// Whether standard error is a terminal.
+    /// Answers whether standard error is a terminal.
     fn is_terminal(&self) -> bool {
         self.stderr().is_terminal()
     }
 
-    /// Writes the text to standard error by one write. That it fails is told nowhere.
+    /// Writes the text to standard error in one write. A failure is ignored.
     fn show(&self, text: &str) {
         let _ = send(&mut Output::new(self.stderr()), text.as_bytes());
     }
 }
 
-/// The text that shows a line as it is given: on a terminal behind the escape sequence that clears the line of
-/// progress which may be there.
+/// Gives the text that shows a line: the line itself, on a terminal behind the escape sequence that clears the line of
+/// progress that may stand there.
 fn line_on(alloc: Global, is_terminal: bool, line: &str) -> Result<String, OutOfMemory>
     ensures { IfOk result (λ text. string_bytes text ≡ line_at is_terminal line.now) }
 {
@@ -41,8 +41,8 @@ fn line_on(alloc: Global, is_terminal: bool, line: &str) -> Result<String, OutOf
     }
 }
 
-/// Tells a line, as it is given, by one write, on a terminal in the place of the line of progress that may be there.
-/// Where memory is wanting for it, nothing is told.
+/// Shows a line in one write; on a terminal it replaces the line of progress that may stand there. Does nothing at want
+/// of memory.
 pub fn tell_line<RT: Screen>(rt: &RT, alloc: Global, line: &str) {
     if let Ok(text) = line_on(alloc, rt.is_terminal(), line) {
         rt.show(text.as_str());

@@ -8,12 +8,12 @@ ghost use Rattle.bf_quoted.specs.Shell.{read_by_shell, bare};
 ghost use Rattle.bf_quoted.specs.Values.{shown};
 ghost use Rattle.bf_quoted.specs.Words.{quoted};
 
-/// A law: a shell reads a quoted word as the word, and is behind its end then.
+/// A law: a shell reads a quoted word as that word, and ends it where the quoting ends.
 pub fn a_shell_reads_the_word()
     ensures { (word : List ℕ) → IsUtf8 word → read_by_shell (quoted word) ≡ bare word }
 {}
 
-/// A law: a shell reads the words of a line, in their order and no other.
+/// A law: a shell reads a line's words, in order, and no others.
 pub fn a_shell_reads_the_words_of_a_line()
     ensures { (words : List (List ℕ)) → All IsUtf8 words
         → words_by_shell (line_of words) ≡ Some words }

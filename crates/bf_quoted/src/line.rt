@@ -7,7 +7,7 @@ use crate::word::push_quoted;
 use bf_value::{OutOfMemory, Text};
 use std::alloc::Global;
 
-/// Adds the space before the word at `place`, from 0, of a line: none before the first.
+/// Adds the space before the word at `place`, from 0, of a line; adds nothing before the first.
 fn push_gap(text: &mut String, place: usize) -> Result<(), OutOfMemory>
     ensures { OnOk result (string_bytes text.new ≡ string_bytes text.old ++ gap place) }
 {
@@ -17,7 +17,7 @@ fn push_gap(text: &mut String, place: usize) -> Result<(), OutOfMemory>
     Ok(())
 }
 
-/// Adds the words of a line, each quoted for a shell where it has to be, with a space between and no line feed.
+/// Adds words as a line for a shell: each quoted where it must be, with a space between each two and no line feed.
 pub fn push_line(alloc: Global, text: &mut String, words: &[Text]) -> Result<(), OutOfMemory>
     ensures { OnOk result (string_bytes text.new ≡ string_bytes text.old ++ line_of words.now) }
 {

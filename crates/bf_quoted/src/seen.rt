@@ -5,14 +5,15 @@ ghost use Rattle.std.specs.List.{list_any};
 ghost use Rattle.std.specs.Str.{chars};
 ghost use Rattle.bf_quoted.specs.Seen.{is_unseen_in};
 
-/// Whether a character is in a range, both ends included.
+/// Answers whether a character lies from `first` to `last`, both included.
 fn is_within(c: char, first: char, last: char) -> bool
     ensures { result ≡ is_in_range first last c }
 {
     first <= c && c <= last
 }
 
-/// Whether a terminal doesn't show the character as itself.
+/// Answers whether a terminal doesn't show the character as itself, such as a control, one without width, or one that
+/// turns the direction of text.
 pub(crate) fn is_unseen(c: char) -> bool
     ensures { result ≡ is_unseen_in c }
 {
@@ -26,7 +27,7 @@ pub(crate) fn is_unseen(c: char) -> bool
         || is_within(c, '\u{fff9}', '\u{fffb}')
 }
 
-/// Whether a terminal doesn't show some character of the text as itself.
+/// Answers whether a text has a character that a terminal doesn't show as itself (`is_unseen`).
 pub(crate) fn has_unseen(text: &str) -> bool
     ensures { result ≡ list_any is_unseen_in (chars text.now) }
 {

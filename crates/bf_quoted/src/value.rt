@@ -8,7 +8,7 @@ ghost use Rattle.bf_quoted.specs.Values.{escape, shown_char, shown};
 use crate::seen::is_unseen;
 use bf_value::OutOfMemory;
 
-/// The ASCII digit of a number below 16, in lower case.
+/// Gives the lower-case hexadecimal digit of a number below 16.
 fn hex_digit(value: u32) -> char
     requires { value < 16 }
     ensures { result ≡ digit_char value }
@@ -20,7 +20,7 @@ fn hex_digit(value: u32) -> char
     }
 }
 
-/// Adds JSON's escape of the character with this code, in four hexadecimal digits, as `\u001b`.
+/// Adds JSON's escape of the character with this code, in the form `\u001b`.
 fn push_escape(text: &mut String, code: u32) -> Result<(), OutOfMemory>
     requires { code < 65_536 }
     ensures { OnOk result (string_bytes text.new ≡ string_bytes text.old ++ escape code) }
@@ -33,7 +33,7 @@ fn push_escape(text: &mut String, code: u32) -> Result<(), OutOfMemory>
     Ok(())
 }
 
-/// Adds a character, or its escape where a terminal would not show it.
+/// Adds a character, or JSON's escape of it where a terminal wouldn't show it as itself.
 fn push_shown_char(text: &mut String, c: char) -> Result<(), OutOfMemory>
     ensures { OnOk result (string_bytes text.new ≡ string_bytes text.old ++ shown_char c) }
 {
@@ -44,8 +44,7 @@ fn push_shown_char(text: &mut String, c: char) -> Result<(), OutOfMemory>
     Ok(())
 }
 
-/// Adds `json`, the compact JSON text of a value, with an escape for each character that a terminal doesn't show as
-/// itself.
+/// Adds `json`, a value's compact JSON, with an escape for each character that a terminal wouldn't show as itself.
 pub fn push_shown_value(text: &mut String, json: &str) -> Result<(), OutOfMemory>
     ensures { OnOk result (string_bytes text.new ≡ string_bytes text.old ++ shown json.now) }
 {

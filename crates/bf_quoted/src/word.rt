@@ -8,48 +8,48 @@ use crate::seen::{has_unseen, is_unseen};
 use bf_value::OutOfMemory;
 use std::alloc::Global;
 
-/// Words that a shell doesn't take for the name of a program.
+/// Words that a shell reads as keywords where a program's name may stand.
 const RESERVED: [&str; 17] = [
     "case", "coproc", "do", "done", "elif", "else", "esac", "fi", "for", "function", "if", "in",
     "select", "then", "time", "until", "while",
 ];
 
-/// Whether a shell takes this byte for itself outside of quotes.
+/// Answers whether a shell reads this byte as itself outside of quotes.
 fn is_bare_byte(byte: u8) -> bool
     ensures { result ≡ is_bare_byte_in byte }
 {
     byte.is_ascii_alphanumeric() || b"_@+:,./-".contains(&byte)
 }
 
-/// Whether a shell takes each of these bytes for itself outside of quotes.
+/// Answers whether a shell reads each of these bytes as itself outside of quotes.
 fn are_bare_bytes(bytes: &[u8]) -> bool
     ensures { result ≡ list_all is_bare_byte_in bytes.now }
 {
     bytes.iter().all(|byte| is_bare_byte(*byte))
 }
 
-/// Whether one of these words is the word.
+/// Answers whether `words` has this word.
 fn is_among(word: &str, words: &[&str]) -> bool
     ensures { result ≡ list_any (λ known. bytes_eq known.now word.now) words.now }
 {
     words.iter().any(|known| *known == word)
 }
 
-/// Whether a shell reserves this word, as `if`.
+/// Answers whether this word is one of a shell's keywords, such as `if`.
 fn is_reserved(word: &str) -> bool
     ensures { result ≡ list_any (λ reserved. bytes_eq reserved word.now) reserved_words }
 {
     is_among(word, &RESERVED)
 }
 
-/// Whether a shell reads this word as itself without quotes.
+/// Answers whether a shell reads this word as itself without quotes.
 fn is_bare_word(word: &str) -> bool
     ensures { result ≡ is_bare_word_in word.now }
 {
     1 <= word.len() && are_bare_bytes(word.as_bytes()) && !is_reserved(word)
 }
 
-/// Adds a character of a word as it stands in a shell's `'..'`.
+/// Adds a character of a word in the form that stands for it between a shell's `'` and `'`.
 fn push_quoted_char(text: &mut String, c: char) -> Result<(), OutOfMemory>
     ensures { OnOk result (string_bytes text.new ≡ string_bytes text.old ++ quoted_char c) }
 {
@@ -61,7 +61,7 @@ fn push_quoted_char(text: &mut String, c: char) -> Result<(), OutOfMemory>
     Ok(())
 }
 
-/// Adds the characters of a word as they stand between single quotes of a shell, without the quotes.
+/// Adds a word's characters in the form that stands for them between a shell's `'` and `'`, without these.
 fn push_in_quotes(text: &mut String, word: &str) -> Result<(), OutOfMemory>
     ensures { OnOk result (string_bytes text.new
         ≡ string_bytes text.old ++ flat_map quoted_char (chars word.now)) }
@@ -72,7 +72,7 @@ fn push_in_quotes(text: &mut String, word: &str) -> Result<(), OutOfMemory>
     Ok(())
 }
 
-/// Adds a byte as a backslash and three octal digits.
+/// Adds a byte as a backslash and three octal digits, in the form `\033`.
 fn push_octal(text: &mut String, byte: u8) -> Result<(), OutOfMemory>
     ensures { OnOk result (string_bytes text.new ≡ string_bytes text.old ++ octal byte) }
 {
@@ -83,7 +83,7 @@ fn push_octal(text: &mut String, byte: u8) -> Result<(), OutOfMemory>
     Ok(())
 }
 
-/// Adds each byte as a backslash and three octal digits.
+/// Adds each byte as a backslash and three octal digits, in the form `\033`.
 fn push_octals(text: &mut String, bytes: &[u8]) -> Result<(), OutOfMemory>
     ensures { OnOk result (string_bytes text.new
         ≡ string_bytes text.old ++ flat_map octal bytes.now) }
@@ -94,7 +94,7 @@ fn push_octals(text: &mut String, bytes: &[u8]) -> Result<(), OutOfMemory>
     Ok(())
 }
 
-/// The text of one character.
+/// Makes a text of one character.
 fn text_of_char(alloc: Global, c: char) -> Result<String, OutOfMemory>
     ensures { IfOk result (λ text. string_bytes text ≡ encode_utf8 c) }
 {
@@ -103,7 +103,7 @@ fn text_of_char(alloc: Global, c: char) -> Result<String, OutOfMemory>
     Ok(text)
 }
 
-/// Adds a character of a word as it stands in a shell's `$'..'`.
+/// Adds a character of a word in the form that stands for it between a shell's `$'` and `'`.
 fn push_escaped_char(alloc: Global, text: &mut String, c: char) -> Result<(), OutOfMemory>
     ensures { OnOk result (string_bytes text.new ≡ string_bytes text.old ++ escaped_char c) }
 {
@@ -117,7 +117,7 @@ fn push_escaped_char(alloc: Global, text: &mut String, c: char) -> Result<(), Ou
     Ok(())
 }
 
-/// Adds the characters of a word as they stand between `$'` and `'`, without these.
+/// Adds a word's characters in the form that stands for them between a shell's `$'` and `'`, without these.
 fn push_escaped(alloc: Global, text: &mut String, word: &str) -> Result<(), OutOfMemory>
     ensures { OnOk result (string_bytes text.new
         ≡ string_bytes text.old ++ flat_map escaped_char (chars word.now)) }
@@ -128,8 +128,8 @@ fn push_escaped(alloc: Global, text: &mut String, word: &str) -> Result<(), OutO
     Ok(())
 }
 
-/// Adds a word so that a shell reads it as itself: bare where that does, in `$'..'` where a terminal doesn't show one
-/// of its characters as itself, else in `'..'`.
+/// Adds a word so that a shell reads it as itself: bare where that works; in `$'..'` where it has a character that a
+/// terminal wouldn't show as itself; else in `'..'`.
 pub fn push_quoted(alloc: Global, text: &mut String, word: &str) -> Result<(), OutOfMemory>
     ensures { OnOk result (string_bytes text.new ≡ string_bytes text.old ++ quoted word.now) }
 {

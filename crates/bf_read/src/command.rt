@@ -19,7 +19,7 @@ use bf_value::{OutOfMemory, Sequence, Text};
 use serde_json::{Map, Value};
 use std::alloc::Global;
 
-/// The key and the value of an object with just one member; None for any other.
+/// Gives the key and the value of an object with just one member; None for any other object.
 fn only_entry_of<'a>(members: &'a Map<String, Value>) -> Option<(&'a str, &'a Value)>
     ensures { option_map (λ m. (m.0.now, view m.1.now)) result
         ≡ only_entry_in (members_view members.entry.now.entries) }
@@ -33,7 +33,7 @@ fn only_entry_of<'a>(members: &'a Map<String, Value>) -> Option<(&'a str, &'a Va
     Some((key.as_str(), value))
 }
 
-/// The key and the value of an object with exactly one key; the fault `Shape` at `path` for any other value.
+/// Gives the key and the value of an object with just one member; `Shape` at `path` for any other value.
 #[tactic(auto, unfolding(crate::specs::Commands::only_member_in))]
 fn only_member<'a>(path: Path, value: &'a Value) -> Result<(&'a str, &'a Value), ReadFault>
     ensures { Gives (λ m. (m.0.now, view m.1.now)) result
@@ -45,8 +45,8 @@ fn only_member<'a>(path: Path, value: &'a Value) -> Result<(&'a str, &'a Value),
         .ok_or(ReadFault::Shape(path))
 }
 
-/// The word that stands for the context variable of the name in `field`; a fault where no text or no variable is
-/// there.
+/// Makes the word for the context variable that `field` names. `Shape` where it holds no text, or names no such
+/// variable.
 #[tactic(auto, unfolding(crate::specs::Commands::context_word_of))]
 fn context_word(field: Field) -> Result<WordDraft, ReadFault>
     ensures { Gives (λ w. w) result (context_word_of (member_of field.entry)) }
@@ -58,8 +58,8 @@ fn context_word(field: Field) -> Result<WordDraft, ReadFault>
     }
 }
 
-/// The word that stands for what the task of the id in `field` pushed; a fault where no text is there. The id needn't
-/// be that of a task.
+/// Makes the word for what the task with the id in `field` pushed, whether or not there is such a task. `Shape` where
+/// it holds no text, `OutOfMemory` at want of memory.
 #[tactic(auto, unfolding(crate::specs::Commands::pull_word_of))]
 fn pull_word(alloc: Global, field: Field) -> Result<WordDraft, ReadFault>
     ensures { Gives (λ w. w) result (pull_word_of (member_of field.entry)) }
@@ -68,7 +68,7 @@ fn pull_word(alloc: Global, field: Field) -> Result<WordDraft, ReadFault>
     Ok(WordDraft::Pull(Text::copy_of(alloc, id)?))
 }
 
-/// The word that stands for the item of an instance; a fault where `field` isn't `true` or the task isn't expanded.
+/// Makes the word for an instance's item. `Shape` where `field` isn't `true`, or the task isn't expanded.
 #[tactic(auto, unfolding(crate::specs::Commands::item_word_of))]
 fn item_word(is_expanded: bool, field: Field) -> Result<WordDraft, ReadFault>
     ensures { Gives (λ w. w) result (item_word_of is_expanded (member_of field.entry)) }
@@ -80,8 +80,8 @@ fn item_word(is_expanded: bool, field: Field) -> Result<WordDraft, ReadFault>
     Ok(WordDraft::Item)
 }
 
-/// The word that an object with only the member `field` stands for, by its key; a fault for an unknown key, a value
-/// that the key can't have, and an item where the task isn't expanded.
+/// Makes the word that an object with the single member `key` and `field` stands for. `Shape` for an unknown key, a
+/// value that the key can't have, or an item where the task isn't expanded; `OutOfMemory` at want of memory.
 #[tactic(auto, unfolding(crate::specs::Commands::keyed_word_of))]
 fn word_with_key(
     alloc: Global,
@@ -99,8 +99,8 @@ fn word_with_key(
     }
 }
 
-/// A word of a command: a text, or an object with just one key; any other value is a fault at `path`, and so is an
-/// item where the task isn't expanded.
+/// Reads a word of a command: a text, or an object with just one key. `Shape` at `path` for any other value, or an item
+/// where the task isn't expanded; `OutOfMemory` at want of memory.
 #[tactic(auto, unfolding(crate::specs::Commands::word_in))]
 fn word_at(
     alloc: Global,
@@ -117,8 +117,8 @@ fn word_at(
     word_with_key(alloc, is_expanded, key, field_with_value(path, value))
 }
 
-/// The words of a command, in order, or the fault at `path` of the first bad one, as an item where the task isn't
-/// expanded.
+/// Reads the words of a command, in order. `Shape` at `path` for the first bad one, such as an item where the task
+/// isn't expanded; `OutOfMemory` at want of memory.
 fn words_in(
     alloc: Global,
     is_expanded: bool,
@@ -134,7 +134,7 @@ fn words_in(
     Ok(words)
 }
 
-/// Whether a word's text, or the id that it pulls, has at most `LONGEST_WORD` bytes.
+/// Answers whether a word's text, or the id that it pulls from, has at most `LONGEST_WORD` bytes; true for other words.
 fn is_short_word(word: &WordDraft) -> bool
     ensures { result ≡ is_short_word_in word.now }
 {
@@ -145,14 +145,14 @@ fn is_short_word(word: &WordDraft) -> bool
     }
 }
 
-/// Whether each word's text, or the id that it pulls, has at most `LONGEST_WORD` bytes.
+/// Answers whether each word's text, or the id that it pulls from, has at most `LONGEST_WORD` bytes.
 fn are_short_words(words: &[WordDraft]) -> bool
     ensures { result ≡ list_all is_short_word_in words.now }
 {
     words.iter().all(|word| is_short_word(word))
 }
 
-/// The id of the task that a word pulls from; None where it is no pull.
+/// Gives the id of the task that a word pulls from; None where the word is no pull.
 fn pulled_id<'a>(word: &'a WordDraft) -> Option<&'a str>
     ensures { option_map (λ s. s.now) result ≡ pulled_by word.entry.now }
 {
@@ -162,7 +162,7 @@ fn pulled_id<'a>(word: &'a WordDraft) -> Option<&'a str>
     }
 }
 
-/// The ids of the tasks that the words pull from, in order and with repeats.
+/// Gives the ids of the tasks that the words pull from, in order and with repeats.
 fn pulled_ids<'a>(alloc: Global, words: &'a [WordDraft]) -> Result<Vec<&'a str>, OutOfMemory>
     ensures { IfOk result (λ v. map (λ s. s.now) v.items ≡ filter_map pulled_by words.entry.now) }
 {
@@ -175,7 +175,7 @@ fn pulled_ids<'a>(alloc: Global, words: &'a [WordDraft]) -> Result<Vec<&'a str>,
     Ok(ids)
 }
 
-/// The distinct ids that the words of a command pull from, in order of first use.
+/// Gives the distinct ids of the tasks that the words pull from, in order of first use.
 pub fn pulls_of(alloc: Global, words: &[WordDraft]) -> Result<Vec<Text>, OutOfMemory>
     ensures { IfOk result (λ v. v.items ≡ pulled_in words.now) }
 {
@@ -183,8 +183,9 @@ pub fn pulls_of(alloc: Global, words: &[WordDraft]) -> Result<Vec<Text>, OutOfMe
     distinct_texts(alloc, ids.as_slice())
 }
 
-/// The command of a task, without words where the key is missing. A fault where a word is bad, as an item where the
-/// task isn't expanded, and then where words, their bytes or the tasks that they pull from are too many.
+/// Reads a task's command; no words where the key is missing. `Shape` for a bad word, such as an item where the task
+/// isn't expanded; then `LimitPassed` where words, their bytes or the tasks that they pull from are too many.
+/// `OutOfMemory` at want of memory.
 #[tactic(auto, unfolding(crate::specs::Commands::command_in))]
 pub(crate) fn command_at(
     alloc: Global,

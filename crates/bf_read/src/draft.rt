@@ -11,7 +11,7 @@ use bf_value::{Sequence, Text};
 pub enum WordDraft {
     Text(Text),
     Context(ContextVariable),
-    /// What is pulled from the task of this id, if there is one.
+    /// What was pushed by the task with this id, which needn't exist.
     Pull(Text),
     /// The item of an instance of an expanded task.
     Item,
@@ -27,21 +27,21 @@ pub struct PoolDraft {
     pub slots: u32,
 }
 
-/// What a graph file says of a task, with the defaults filled in. Tasks, rules and pools stand in it by their names, which
-/// needn't be those of any.
+/// What a graph file says of a task, with the defaults filled in. Upstreams, rule, pool and source of items stand in it
+/// by name, and need not exist.
 #[derive(Debug, Drop)]
 pub struct TaskDraft {
     pub id: Text,
-    /// Distinct, in order of first use.
+    /// Distinct ids, in order of first use.
     pub upstreams: Sequence<Text>,
     pub rule: Text,
     pub kind: TaskKind,
     pub command: Sequence<WordDraft>,
-    /// The source of the items, of a task that is to be expanded.
+    /// The id of the task over whose items it is expanded; None where it isn't.
     pub expand: Option<Text>,
     pub depends_on_past: bool,
     pub retries: u32,
-    /// How many seconds the next try waits after one that failed.
+    /// How many seconds the next try waits after a failed one.
     pub retry_delay: u32,
     pub pool: Text,
     pub pool_slots: u32,
@@ -49,21 +49,21 @@ pub struct TaskDraft {
     pub weight_rule: WeightRule,
 }
 
-/// What a graph file says, with the defaults filled in.
+/// What a graph file says, with the defaults filled in, before it is checked as a plan.
 #[derive(Debug, Drop)]
 pub struct Draft {
     pub dag_id: Text,
     pub schedule: Text,
     pub zone: Text,
     pub max_active_runs: u32,
-    /// Those that the file names, by name in byte order.
+    /// The pools that the file names, by name in byte order.
     pub pools: Sequence<PoolDraft>,
     /// In the order of the file.
     pub tasks: Sequence<TaskDraft>,
     pub ghost within_limits: { IsDraft dag_id max_active_runs pools tasks },
 }
 
-/// How many distinct edges these tasks have: each task's upstreams are distinct.
+/// Counts the edges of these tasks: the upstreams of each, which are distinct.
 pub(crate) fn edge_count(tasks: &[TaskDraft]) -> usize
     requires { number_of_edges tasks.now ≤ most_edges }
     ensures { result ≡ number_of_edges tasks.now }
@@ -72,7 +72,7 @@ pub(crate) fn edge_count(tasks: &[TaskDraft]) -> usize
 }
 
 impl Draft {
-    /// How many distinct edges there are.
+    /// Counts the distinct edges of the graph.
     pub fn edge_count(&self) -> usize
         ensures { result ≡ number_of_edges self.now.tasks }
     {

@@ -8,24 +8,24 @@ use std::alloc::AllocFailed;
 use std::error::Error;
 use std::fmt;
 
-/// Why a graph file is refused.
+/// Why a graph file could not be read as a draft. Paths say where the fault is.
 #[derive(Debug, Drop)]
 pub enum ReadFault {
     /// The bytes are no UTF-8, or no JSON.
     NotJson,
-    /// A value of the wrong type, one that is missing, an object with an unknown key, a name of no kind, weight rule or context
-    /// variable, or a word that is none.
+    /// A value is missing or of the wrong type, an object has an unknown key, a name is that of no kind, weight rule or
+    /// context variable, or a word of a command is malformed.
     Shape(Path),
-    /// A text that is no id.
+    /// A text isn't an id.
     BadName(Path),
-    /// An id that an earlier task has.
+    /// An earlier task has this id.
     DuplicateTask(Text),
     LimitPassed(Path),
     OutOfMemory,
 }
 
 impl ReadFault {
-    /// The number of the refusal (docs/FORMATS.md), 1 to 5; None for want of memory.
+    /// Gives the number of the refusal in docs/FORMATS.md, 1 to 5; None for `OutOfMemory`, which refuses no file.
     pub fn refusal_number(&self) -> Option<u32>
         ensures { result ≡ refusal_number_of self.now }
     {
@@ -46,6 +46,7 @@ impl fmt::Display for ReadFault {
 
     ghost output = { λ fault. Some (fault_text fault) };
 
+    /// Writes the fault in words, with its place or task, such as `shape: tasks[3].upstream`.
     fn fmt<W: fmt::Write>(&self, f: &mut fmt::Formatter<W>) -> fmt::Result {
         match self {
             ReadFault::NotJson => write!(f, "not json"),
@@ -65,6 +66,7 @@ impl From<OutOfMemory> for ReadFault {
 
     ghost from_gives = { λ _ e. e ≡ OutOfMemory };
 
+    /// Gives `OutOfMemory`.
     fn from(_e: OutOfMemory) -> ReadFault {
         ReadFault::OutOfMemory
     }
@@ -75,6 +77,7 @@ impl<T: Drop> From<AllocFailed<T>> for ReadFault {
 
     ghost from_gives = { λ _ e. e ≡ OutOfMemory };
 
+    /// Gives `OutOfMemory`.
     fn from(_e: AllocFailed<T>) -> ReadFault {
         ReadFault::OutOfMemory
     }

@@ -16,21 +16,21 @@ use bf_value::Text;
 use serde_json::{Map, Value};
 use std::alloc::Global;
 
-/// Which object of a graph file it is.
+/// Which kind of object of a graph file is meant.
 #[derive(Clone, Copy, Debug, PartialEq, Eq)]
 pub(crate) enum ObjectKind {
     Graph,
     Task,
 }
 
-/// A value and its place, where the value may be missing.
+/// A value and where it stands; None where the value is missing.
 #[derive(Clone, Copy)]
 pub(crate) struct Field<'a> {
     pub(crate) path: Path,
     pub(crate) value: Option<&'a Value>,
 }
 
-/// The field at a path with a value.
+/// Makes the field of a value that stands at `path`.
 pub(crate) fn field_with_value<'a>(path: Path, value: &'a Value) -> Field<'a>
     ensures { member_of result ≡ field_with_value_in path (view value.entry.now) }
 {
@@ -46,7 +46,7 @@ pub(crate) struct GraphObject<'a> {
     pub(crate) value: &'a Value,
 }
 
-/// The object of a task, and how many tasks stand before it.
+/// The object of a task, which has `n` others before it in the file.
 #[derive(Clone, Copy)]
 pub(crate) struct TaskObject<'a> {
     pub(crate) n: u32,
@@ -54,7 +54,7 @@ pub(crate) struct TaskObject<'a> {
 }
 
 impl<'a> GraphObject<'a> {
-    /// The field at a key of a graph's object, whether it is there or missing.
+    /// Gives the field at this key of the graph's object; its value is None where the key is missing.
     pub(crate) fn member_at(self, key: GraphKey) -> Field<'a>
         ensures { member_of result ≡ graph_member (view self.entry.value.now) key }
     {
@@ -66,7 +66,7 @@ impl<'a> GraphObject<'a> {
 }
 
 impl<'a> TaskObject<'a> {
-    /// The field at a key of a task's object, whether it is there or missing.
+    /// Gives the field at this key of the task's object; its value is None where the key is missing.
     pub(crate) fn member_at(self, key: TaskKey) -> Field<'a>
         ensures { member_of result
             ≡ task_member self.entry.n (view self.entry.value.now) key }
@@ -78,7 +78,7 @@ impl<'a> TaskObject<'a> {
     }
 }
 
-/// Whether an object of this kind may have the key.
+/// Answers whether an object of this kind may have this key.
 fn is_key(kind: ObjectKind, name: &str) -> bool
     ensures { result ≡ is_key_in kind name.now }
 {
@@ -88,21 +88,21 @@ fn is_key(kind: ObjectKind, name: &str) -> bool
     }
 }
 
-/// Whether an object of this kind may have all these keys.
+/// Answers whether an object of this kind may have all keys of `members`.
 fn are_keys(kind: ObjectKind, members: &Map<String, Value>) -> bool
     ensures { result ≡ list_all (λ name. is_key_in kind (string_bytes name)) (keys members.now) }
 {
     members.keys().all(|name| is_key(kind, name.as_str()))
 }
 
-/// Whether each key of an object is one that its kind has.
+/// Answers whether an object has only keys that its kind may have.
 fn has_known_keys(kind: ObjectKind, members: &Map<String, Value>) -> bool
     ensures { result ≡ has_known_keys_in kind (members_view members.now.entries) }
 {
     are_keys(kind, members)
 }
 
-/// The fault `Shape` at `path` for a value that is no object, or has a key that objects of this kind don't have.
+/// Checks that a value is an object with only the keys that its kind may have; else `Shape` at `path`.
 #[tactic(auto, unfolding(crate::specs::Fields::refuse_other_object_in))]
 pub(crate) fn refuse_other_object(
     kind: ObjectKind,
@@ -117,7 +117,7 @@ pub(crate) fn refuse_other_object(
     }
 }
 
-/// The text of a field; the fault `Shape` where it is missing or no text.
+/// Gives a field's text; `Shape` where the field is missing or no text.
 #[tactic(auto, unfolding(crate::specs::Fields::text_of))]
 pub(crate) fn text_at<'a>(field: Field<'a>) -> Result<&'a str, ReadFault>
     ensures { Gives (λ s. s.now) result (text_of (member_of field.entry)) }
@@ -128,7 +128,8 @@ pub(crate) fn text_at<'a>(field: Field<'a>) -> Result<&'a str, ReadFault>
         .ok_or(ReadFault::Shape(field.path))
 }
 
-/// The text of a field, or `default` where it is missing; the fault `Shape` where it is no text.
+/// Gives a field's text, or `default` where the field is missing. `Shape` where it is no text, `OutOfMemory` at want of
+/// memory.
 #[tactic(auto, unfolding(crate::specs::Fields::text_or_in))]
 pub(crate) fn text_or(alloc: Global, default: &str, field: Field) -> Result<Text, ReadFault>
     ensures { Gives (λ s. s) result (text_or_in default.now (member_of field.entry)) }
@@ -139,8 +140,8 @@ pub(crate) fn text_or(alloc: Global, default: &str, field: Field) -> Result<Text
     Ok(Text::copy_of(alloc, text_at(field)?)?)
 }
 
-/// The id of the task over whose items a task is expanded; None where the field is missing, a fault where it is no
-/// text.
+/// Gives the id of the task over whose items a task is expanded; None where the field is missing. `Shape` where it is
+/// no text, `OutOfMemory` at want of memory.
 #[tactic(auto, unfolding(crate::specs::Fields::expansion_source_in))]
 pub(crate) fn expansion_source_at(alloc: Global, field: Field) -> Result<Option<Text>, ReadFault>
     ensures { Gives (λ s. s) result (expansion_source_in (member_of field.entry)) }
@@ -151,7 +152,7 @@ pub(crate) fn expansion_source_at(alloc: Global, field: Field) -> Result<Option<
     Ok(Some(Text::copy_of(alloc, text_at(field)?)?))
 }
 
-/// The text as an id; the fault `BadName` at `path` where it can't be one.
+/// Copies a text that is an id. `BadName` at `path` where it is none, `OutOfMemory` at want of memory.
 #[tactic(auto, unfolding(crate::specs::Fields::id_of_text_in))]
 pub(crate) fn id_of_text(alloc: Global, path: Path, text: &str) -> Result<Text, ReadFault>
     ensures exact { Gives (λ s. s) result (id_of_text_in path text.now) }
@@ -164,7 +165,8 @@ pub(crate) fn id_of_text(alloc: Global, path: Path, text: &str) -> Result<Text, 
     Ok(Text::copy_of(alloc, text)?)
 }
 
-/// The id of a field; the fault `Shape` where it is missing or no text, `BadName` where it is no id.
+/// Gives a field's id. `Shape` where the field is missing or no text, `BadName` where it is no id, `OutOfMemory` at
+/// want of memory.
 #[tactic(auto, unfolding(crate::specs::Fields::id_in))]
 pub(crate) fn id_at(alloc: Global, field: Field) -> Result<Text, ReadFault>
     ensures exact { Gives (λ s. s) result (id_in (member_of field.entry)) }
@@ -174,7 +176,7 @@ pub(crate) fn id_at(alloc: Global, field: Field) -> Result<Text, ReadFault>
     id_of_text(alloc, field.path, text)
 }
 
-/// The truth value of a field, false where it is missing; the fault `Shape` where it is none.
+/// Gives a field's truth value, false where the field is missing; `Shape` where it is no truth value.
 #[tactic(auto, unfolding(crate::specs::Fields::flag_in))]
 pub(crate) fn flag_at(field: Field) -> Result<bool, ReadFault>
     ensures { Gives (λ b. b) result (flag_in (member_of field.entry)) }
@@ -185,7 +187,7 @@ pub(crate) fn flag_at(field: Field) -> Result<bool, ReadFault>
     }
 }
 
-/// The whole number of a field; the fault `Shape` where it is missing, or no number of 64 bits.
+/// Gives a field's whole number; `Shape` where the field is missing, or no whole number of 64 bits.
 #[tactic(auto, unfolding(crate::specs::Fields::whole_number_in))]
 pub(crate) fn whole_number_at(field: Field) -> Result<i64, ReadFault>
     ensures { Gives (λ z. z) result (whole_number_in (member_of field.entry)) }
@@ -196,7 +198,7 @@ pub(crate) fn whole_number_at(field: Field) -> Result<i64, ReadFault>
         .ok_or(ReadFault::Shape(field.path))
 }
 
-/// A whole number from `least` to `most`, both included; the fault `LimitPassed` at `path` for any other.
+/// Gives `number` where it lies from `least` to `most`, both included; else `LimitPassed` at `path`.
 #[tactic(auto, unfolding(crate::specs::Fields::number_within_of))]
 pub(crate) fn number_within(
     path: Path,
@@ -214,8 +216,8 @@ pub(crate) fn number_within(
     Ok(number as u32)
 }
 
-/// The whole number of a field, from `least` to `most`, both included, or `default` where it is missing; a fault
-/// where it is no whole number, or out of these bounds.
+/// Gives a field's whole number, or `default` where the field is missing. `Shape` where it is no whole number,
+/// `LimitPassed` where it doesn't lie from `least` to `most`, both included.
 #[tactic(auto, unfolding(crate::specs::Fields::count_in))]
 pub(crate) fn count_at(default: u32, least: u32, most: u32, field: Field) -> Result<u32, ReadFault>
     ensures exact { Gives (λ n. n) result (count_in default least most (member_of field.entry)) }
@@ -229,7 +231,7 @@ pub(crate) fn count_at(default: u32, least: u32, most: u32, field: Field) -> Res
     number_within(field.path, least, most, number)
 }
 
-/// The fault `LimitPassed` at `path` unless `holds`, which tells whether a limit is kept.
+/// Gives `LimitPassed` at `path` unless `holds`, which says whether a limit is kept.
 #[tactic(auto, unfolding(crate::specs::Fields::refuse_beyond_limit_of))]
 pub(crate) fn refuse_beyond_limit(path: Path, holds: bool) -> Result<(), ReadFault>
     ensures exact { Gives (λ u. u) result (refuse_beyond_limit_of path holds) }
@@ -241,7 +243,7 @@ pub(crate) fn refuse_beyond_limit(path: Path, holds: bool) -> Result<(), ReadFau
     Ok(())
 }
 
-/// The items of a field that is a list; the fault `Shape` where it is missing or no list.
+/// Gives the items of a field that is a list; `Shape` where the field is missing or no list.
 #[tactic(auto, unfolding(crate::specs::Fields::items_in))]
 pub(crate) fn items_at<'a>(field: Field<'a>) -> Result<&'a [Value], ReadFault>
     ensures { Gives (λ items. items_view items.now) result (items_in (member_of field.entry)) }
@@ -253,7 +255,7 @@ pub(crate) fn items_at<'a>(field: Field<'a>) -> Result<&'a [Value], ReadFault>
         .ok_or(ReadFault::Shape(field.path))
 }
 
-/// The members of a field that is an object; the fault `Shape` where it is missing or no object.
+/// Gives the members of a field that is an object; `Shape` where the field is missing or no object.
 #[tactic(auto, unfolding(crate::specs::Fields::members_in))]
 pub(crate) fn members_at<'a>(field: Field<'a>) -> Result<&'a Map<String, Value>, ReadFault>
     ensures { Gives (λ ms. members_view ms.now.entries) result

@@ -2,7 +2,7 @@
 ghost use Rattle.std.specs.Prelude.{◌≡◌};
 ghost use Rattle.bf_read.specs.Keys.{graph_key_name, task_key_name, is_graph_key_in, is_task_key_in};
 
-/// A key of the object of the whole file.
+/// A key of a graph file's outer object.
 #[derive(Clone, Copy, Debug, PartialEq, Eq)]
 pub enum GraphKey {
     DagId,
@@ -31,6 +31,7 @@ pub enum TaskKey {
     WeightRule,
 }
 
+/// All keys of a graph file's outer object, in the order in which they are read.
 const GRAPH_KEYS: [GraphKey; 6] = [
     GraphKey::DagId,
     GraphKey::Schedule,
@@ -40,6 +41,7 @@ const GRAPH_KEYS: [GraphKey; 6] = [
     GraphKey::Tasks,
 ];
 
+/// All keys of a task's object, in the order in which they are read.
 const TASK_KEYS: [TaskKey; 13] = [
     TaskKey::Id,
     TaskKey::Upstream,
@@ -57,7 +59,7 @@ const TASK_KEYS: [TaskKey; 13] = [
 ];
 
 impl GraphKey {
-    /// The key as it stands in a file.
+    /// Gives the key as it stands in a file.
     pub fn name(self) -> &'static str
         ensures { result.now ≡ graph_key_name self }
     {
@@ -73,7 +75,7 @@ impl GraphKey {
 }
 
 impl TaskKey {
-    /// The key as it stands in a file.
+    /// Gives the key as it stands in a file.
     pub fn name(self) -> &'static str
         ensures { result.now ≡ task_key_name self }
     {
@@ -95,14 +97,14 @@ impl TaskKey {
     }
 }
 
-/// Whether a graph file's object may have this key.
+/// Answers whether a graph file's outer object may have this key.
 pub(crate) fn is_graph_key(name: &str) -> bool
     ensures { result ≡ is_graph_key_in name.now }
 {
     GRAPH_KEYS.iter().any(|key| name == key.name())
 }
 
-/// Whether a task's object may have this key.
+/// Answers whether a task's object may have this key.
 pub(crate) fn is_task_key(name: &str) -> bool
     ensures { result ≡ is_task_key_in name.now }
 {

@@ -7,7 +7,7 @@ use crate::fault::ReadFault;
 use crate::fields::{Field, text_at};
 use bf_plan::{TaskKind, WeightRule};
 
-/// The kind of a task, a program where the key is missing; a fault where the value is no kind's name.
+/// Reads a task's kind, `Program` where the key is missing; `Shape` where the value names no kind.
 #[tactic(auto, unfolding(crate::specs::Fields::kind_in))]
 pub(crate) fn kind_at(field: Field) -> Result<TaskKind, ReadFault>
     ensures { Gives (λ k. k) result (kind_in (member_of field.entry)) }
@@ -19,7 +19,7 @@ pub(crate) fn kind_at(field: Field) -> Result<TaskKind, ReadFault>
     TaskKind::named(name).ok_or(ReadFault::Shape(field.path))
 }
 
-/// The weight rule of a task, `downstream` where the key is missing; a fault where the value is no rule's name.
+/// Reads a task's weight rule, `Downstream` where the key is missing; `Shape` where the value names no weight rule.
 #[tactic(auto, unfolding(crate::specs::Fields::weight_rule_in))]
 pub(crate) fn weight_rule_at(field: Field) -> Result<WeightRule, ReadFault>
     ensures { Gives (λ r. r) result (weight_rule_in (member_of field.entry)) }

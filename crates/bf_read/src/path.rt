@@ -2,13 +2,13 @@
 use crate::keys::{GraphKey, TaskKey};
 use std::fmt;
 
-/// Where in a graph file a fault is. It is printed as the keys that lead there, and tasks count from 0:
+/// Where in a graph file a fault is. It displays as the keys that lead there, with tasks counted from 0:
 /// `tasks[3].upstream`.
 #[derive(Clone, Copy, Debug, PartialEq, Eq)]
 pub enum Path {
     /// The file as a whole, as bytes.
     Bytes,
-    /// The object of the whole file.
+    /// The outer object.
     Top,
     Key(GraphKey),
     Task(u32),
@@ -21,6 +21,7 @@ impl fmt::Display for Path {
 
     ghost output = { λ path. Some (path_text path) };
 
+    /// Writes the keys that lead to the place, such as `tasks[3].upstream`.
     fn fmt<W: fmt::Write>(&self, f: &mut fmt::Formatter<W>) -> fmt::Result {
         match self {
             Path::Bytes => write!(f, "bytes"),

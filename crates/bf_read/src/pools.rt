@@ -17,8 +17,8 @@ use bf_value::Sequence;
 use serde_json::{Map, Value};
 use std::alloc::Global;
 
-/// The pool that a member of `pools` says: its name, and its slots, from 1 to `MOST_SLOTS`. A fault at `path` where
-/// the value is no such number, or the name no id.
+/// Reads a pool from a member of `pools`: its name, and its slots, from 1 to `MOST_SLOTS`. At `path`: `Shape` for no
+/// whole number, then `BadName` for a name that is no id, then `LimitPassed`; `OutOfMemory` at want of memory.
 #[tactic(auto, unfolding(crate::specs::Fields::pool_in))]
 fn pool_at(alloc: Global, path: Path, name: &str, value: &Value) -> Result<PoolDraft, ReadFault>
     ensures exact { Gives (λ p. p) result (pool_in path name.now (view value.now)) }
@@ -31,7 +31,7 @@ fn pool_at(alloc: Global, path: Path, name: &str, value: &Value) -> Result<PoolD
     Ok(PoolDraft { name, slots })
 }
 
-/// The pools by name, in byte order, or the fault at `path` of the first bad one.
+/// Reads the pools, by name in byte order; an Err is that of the first bad one, or `OutOfMemory`.
 fn pools_in(
     alloc: Global,
     path: Path,
@@ -49,8 +49,8 @@ fn pools_in(
     Ok(pools)
 }
 
-/// The pools that a file names, by name, none where the key is missing; a fault where it is no object, or a pool is
-/// bad.
+/// Reads the pools that a file names, by name in byte order; none where the key is missing. `Shape` where it is no
+/// object; else an Err is that of the first bad pool, or `OutOfMemory`.
 #[tactic(auto, unfolding(crate::specs::Fields::pools_in))]
 pub(crate) fn pools_at(alloc: Global, field: Field) -> Result<Sequence<PoolDraft>, ReadFault>
     ensures exact { Gives (λ ps. ps) result (pools_in (member_of field.entry)) }

@@ -20,8 +20,8 @@ use bf_value::Text;
 use serde_json::Value;
 use std::alloc::Global;
 
-/// The draft of a graph, read from the object of its file, or the fault of the first bad key, in the order of
-/// `GraphKey`.
+/// Reads a draft from the outer object of a graph file, whose keys are known. An Err is that of the first bad key, in
+/// the order of `GraphKey`, or `OutOfMemory`.
 #[tactic(auto, unfolding(crate::specs::Reading::draft_of_entry))]
 fn draft_of_object(alloc: Global, graph: GraphObject) -> Result<Draft, ReadFault>
     ensures { Gives graph_file_of result
@@ -45,8 +45,8 @@ fn draft_of_object(alloc: Global, graph: GraphObject) -> Result<Draft, ReadFault
     })
 }
 
-/// The draft of a JSON value, or its first fault: that it is no object, or has an unknown key, comes before the
-/// faults of known keys.
+/// Reads a draft from a JSON value. `Shape` where it is no object or has an unknown key; else an Err is that of the
+/// first bad key, or `OutOfMemory`.
 #[tactic(auto, unfolding(crate::specs::Reading::draft_in))]
 fn draft_of(alloc: Global, value: &Value) -> Result<Draft, ReadFault>
     ensures { Gives graph_file_of result (draft_in (view value.now)) }
@@ -55,8 +55,8 @@ fn draft_of(alloc: Global, value: &Value) -> Result<Draft, ReadFault>
     draft_of_object(alloc, GraphObject { value })
 }
 
-/// The draft of a graph file, or the first fault: first a file that is too long, then one that is no JSON
-/// text in UTF-8, as `serde_json` reads it, and then what its value lacks.
+/// Reads a draft from the bytes of a graph file. Err, in this order: `LimitPassed` for too many bytes, `NotJson` where
+/// they are no JSON in UTF-8, then the first fault of the value. `OutOfMemory` comes at want of memory.
 #[tactic(auto, unfolding(crate::specs::Reading::graph_in))]
 pub fn read_graph(alloc: Global, bytes: &[u8]) -> Result<Draft, ReadFault>
     ensures { Gives graph_file_of result (graph_in bytes.now) }

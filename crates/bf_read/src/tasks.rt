@@ -33,7 +33,7 @@ use bf_value::{Sequence, Text};
 use serde_json::Value;
 use std::alloc::Global;
 
-/// What a task is called, and which tasks it comes after.
+/// A task's id and the ids of the tasks directly upstream.
 #[derive(Drop)]
 struct TaskPlace {
     id: Text,
@@ -52,7 +52,7 @@ struct TaskWork {
     retry_delay: u32,
 }
 
-/// What a running try of a task takes, and what the task weighs.
+/// What a try of a task takes of a pool while it runs, and the task's priority.
 #[derive(Drop)]
 struct TaskDemand {
     pool: Text,
@@ -61,14 +61,14 @@ struct TaskDemand {
     weight_rule: WeightRule,
 }
 
-/// Whether one of the `tasks` has this id.
+/// Answers whether one of `tasks` has this id.
 fn has_task_with_id(tasks: &[TaskDraft], id: &str) -> bool
     ensures { result ≡ list_any (λ task. bytes_eq id.now task.id) tasks.now }
 {
     tasks.iter().any(|task| id == task.id.as_str())
 }
 
-/// The id itself; the fault `DuplicateTask` where one of `tasks`, those before in the file, has it.
+/// Gives the id where none of `tasks`, those before it in the file, has it; else `DuplicateTask`.
 #[tactic(auto, unfolding(crate::specs::Reading::refuse_seen_id_of))]
 fn refuse_seen_id(tasks: &[TaskDraft], id: Text) -> Result<Text, ReadFault>
     ensures exact { Gives (λ id. id) result (refuse_seen_id_of tasks.now id) }
@@ -81,8 +81,9 @@ fn refuse_seen_id(tasks: &[TaskDraft], id: Text) -> Result<Text, ReadFault>
     Ok(id)
 }
 
-/// The id and the upstreams of a task, read from its object; `tasks` are those before it. A fault where the id is bad
-/// or one of theirs, or where the upstreams are no texts or pass the edges that a file may have.
+/// Reads a task's id and upstreams from its object; `tasks` are those before it in the file. An Err, the first in the
+/// order of keys, is for a bad or repeated id, upstreams that are no texts, or more edges than a file may have; or
+/// `OutOfMemory`.
 #[tactic(auto, unfolding(crate::specs::Reading::task_place_in))]
 fn task_place_of(
     alloc: Global,
@@ -111,8 +112,8 @@ fn task_place_of(
     })
 }
 
-/// What a task does, read from its object: its rule, kind, command, source, retries. A missing key has its default, a
-/// bad value is a fault.
+/// Reads from a task's object what it does: its rule, kind, command, source of items and retries, each with its default
+/// where the key is missing. An Err is that of the first bad value, or `OutOfMemory`.
 #[tactic(auto, unfolding(crate::specs::Reading::task_work_in))]
 fn task_work_of(alloc: Global, task: TaskObject) -> Result<TaskWork, ReadFault>
     ensures exact { Gives (λ w. w) result
@@ -147,8 +148,8 @@ fn task_work_of(alloc: Global, task: TaskObject) -> Result<TaskWork, ReadFault>
     })
 }
 
-/// What a task takes to run, read from its object: its pool, its slots of the pool, and its priority. A missing key
-/// has its default, a bad value is a fault.
+/// Reads from a task's object what it takes to run: its pool, its slots there and its priority, each with its default
+/// where the key is missing. An Err is that of the first bad value, or `OutOfMemory`.
 #[tactic(auto, unfolding(crate::specs::Reading::task_demand_in))]
 fn task_demand_of(alloc: Global, task: TaskObject) -> Result<TaskDemand, ReadFault>
     ensures exact { Gives (λ d. d) result
@@ -174,7 +175,8 @@ fn task_demand_of(alloc: Global, task: TaskObject) -> Result<TaskDemand, ReadFau
     })
 }
 
-/// The task that has `n` others before it in the file, `tasks`, read from its value; or its first fault.
+/// Reads a task that has `n` others, `tasks`, before it in the file. An Err is that of its first fault, or
+/// `OutOfMemory`.
 #[tactic(auto, unfolding(crate::specs::Reading::task_in))]
 fn task_of(
     alloc: Global,
@@ -208,7 +210,7 @@ fn task_of(
     })
 }
 
-/// The tasks of a graph, in the order of the file, or the fault of the first bad one.
+/// Reads the tasks of a graph, in file order. An Err is that of the first bad task, or `OutOfMemory`.
 fn tasks_of(alloc: Global, items: &[Value]) -> Result<Vec<TaskDraft>, ReadFault>
     requires { length items.now ≤ most_tasks }
     ensures exact { Gives (λ v. v.items) result (tasks_from [] 0 (items_view items.now)) }
@@ -222,7 +224,7 @@ fn tasks_of(alloc: Global, items: &[Value]) -> Result<Vec<TaskDraft>, ReadFault>
     Ok(tasks)
 }
 
-/// The fault `LimitPassed` at `path` for more items than `MOST_TASKS`.
+/// Gives `LimitPassed` at `path` where there are more than `MOST_TASKS` items.
 fn refuse_too_many_tasks(path: Path, items: &[Value]) -> Result<(), ReadFault>
     ensures exact { Gives (λ u. u) result
         (refuse_beyond_limit_of path (nat_le (items_len (items_view items.now)) most_tasks)) }
@@ -231,8 +233,8 @@ fn refuse_too_many_tasks(path: Path, items: &[Value]) -> Result<(), ReadFault>
     refuse_beyond_limit(path, items.len() <= MOST_TASKS)
 }
 
-/// The tasks of a graph file, in its order; a fault where the field is missing or no list, or has too many or a bad
-/// one.
+/// Reads the tasks of a graph file, in its order. `Shape` where the field is missing or no list, `LimitPassed` for too
+/// many; else an Err is that of the first bad task, or `OutOfMemory`.
 #[tactic(auto, unfolding(crate::specs::Reading::tasks_in))]
 pub(crate) fn tasks_at(alloc: Global, field: Field) -> Result<Sequence<TaskDraft>, ReadFault>
     ensures exact { Gives (λ ts. ts) result (tasks_in (member_of field.entry)) }

@@ -15,7 +15,7 @@ use serde_json::Value;
 use std::alloc::Global;
 use std::collections::HashSet;
 
-/// The texts of a list, or the fault `Shape` at `path` where an item is no text.
+/// Gives the texts of a list. `Shape` at `path` where an item is no text, `OutOfMemory` at want of memory.
 fn texts_in<'a>(alloc: Global, path: Path, items: &'a [Value]) -> Result<Vec<&'a str>, ReadFault>
     ensures { Gives (λ v. map (λ s. s.now) v.items) result
         (texts_of path (items_view items.entry.now)) }
@@ -27,7 +27,7 @@ fn texts_in<'a>(alloc: Global, path: Path, items: &'a [Value]) -> Result<Vec<&'a
     Ok(texts)
 }
 
-/// The distinct texts, in order of first use.
+/// Copies the distinct texts, in order of first use.
 pub(crate) fn distinct_texts(alloc: Global, texts: &[&str]) -> Result<Vec<Text>, OutOfMemory>
     ensures { IfOk result (λ v. v.items ≡ distinct_texts_of (map (λ s. s.now) texts.now)) }
 {
@@ -41,7 +41,8 @@ pub(crate) fn distinct_texts(alloc: Global, texts: &[&str]) -> Result<Vec<Text>,
     Ok(found)
 }
 
-/// The distinct upstreams of a task, none where the key is missing; a fault where it is no list of texts.
+/// Reads the distinct upstreams of a task, in order of first use; none where the key is missing. `Shape` where it is no
+/// list of texts, `OutOfMemory` at want of memory.
 #[tactic(auto, unfolding(crate::specs::Fields::upstreams_in))]
 pub(crate) fn upstreams_at(alloc: Global, field: Field) -> Result<Vec<Text>, ReadFault>
     ensures exact { Gives (λ v. v.items) result (upstreams_in (member_of field.entry)) }

@@ -18,32 +18,33 @@ use bf_rule::{Counts, Verdict, followed, verdict};
 use bf_value::Xval;
 use bf_xcom::{Outcome, TaskResult, TaskValue};
 
-/// Why something is decided of a task in a run: the line of the decision that made it so.
+/// Why a task in a run gets its state: the step of the decision that settles it.
 #[derive(Clone, Copy, Debug, PartialEq, Eq)]
 pub enum StateCause {
-    /// What it looks at isn't settled, which in a report all is.
+    /// Something that decides it isn't settled yet; in a report everything is.
     Waits,
     /// It is skipped: a branch directly upstream succeeded and doesn't follow it.
     NotFollowed,
-    /// A branch directly upstream is blocked.
+    /// It has no status: a branch directly upstream has none.
     BranchIsBlocked,
-    /// A task directly upstream is blocked.
+    /// It has no status: a task directly upstream has none.
     UpstreamIsBlocked,
-    /// Its rule skips it.
+    /// It is skipped by its trigger rule.
     RuleSkips,
-    /// Its rule makes it upstream_failed.
+    /// It is upstream_failed by its trigger rule.
     RuleFails,
-    /// It is blocked: it depends on its past, which has not passed.
+    /// It has no status: it depends on its past, and neither passed nor was skipped in the run before.
     PastHasNotPassed,
-    /// It is upstream_failed: its source gives no items.
+    /// It is upstream_failed: the task that it is expanded over gave no list of items.
     ItemsAreMissing,
-    /// It is skipped: the list of its items is empty.
+    /// It is skipped: the task that it is expanded over gave an empty list of items.
     HasNoItems,
     /// It runs, as so many instances.
     Runs(usize),
 }
 
-/// How many instances of a task are in each state; a task that isn't in `settled` counts as one that is blocked.
+/// How many instances of task number `task` are in each state; one blocked instance where `settled`, the tasks of the
+/// run, lacks the task.
 pub fn counts_at(settled: &[Settled<'_>], task: u32) -> Counts
     ensures counts { result ≡ counts_in (value_among settled.now task) }
     ensures few { total_of result ≤ 1_024 }
@@ -57,8 +58,8 @@ pub fn counts_at(settled: &[Settled<'_>], task: u32) -> Counts
     }
 }
 
-/// How many instances of these upstreams are in each state; one that isn't in `settled` counts as one that is
-/// blocked.
+/// How many instances of these upstreams, at most 20,000, are in each state; an upstream that `settled` lacks counts as
+/// one blocked instance.
 pub fn counts_of_upstreams(settled: &[Settled<'_>], upstreams: &[u32]) -> Counts
     requires { length upstreams.now ≤ 20_000 }
     ensures { result ≡ counts_over (seen_among settled.now) upstreams.now }
@@ -70,7 +71,7 @@ pub fn counts_of_upstreams(settled: &[Settled<'_>], upstreams: &[u32]) -> Counts
     counts
 }
 
-/// Whether a branch with these results succeeded and doesn't follow a task; false where there is no result.
+/// Whether a branch with these results succeeded and doesn't follow `task`; false where there is no result.
 fn results_skip(plan: &Plan, branch: u32, task: u32, results: &[TaskResult]) -> bool
     requires { task < length plan.now.dag.tasks }
     ensures { result ≡ branch_skips plan.now.dag task branch (TaskValue.Ran results.now) }
@@ -79,12 +80,12 @@ fn results_skip(plan: &Plan, branch: u32, task: u32, results: &[TaskResult]) -> 
         return false;
     };
     match &first.outcome {
-        Outcome::Success(pushed) => !followed(plan.graph(), branch, pushed.as_ref(), task),
+        Outcome::Success(pushed) => !followed(plan.graph(), branch, pushed.get(), task),
         Outcome::Failed | Outcome::Skipped => false,
     }
 }
 
-/// Whether a branch with this value succeeded and doesn't follow a task.
+/// Whether a branch with this value succeeded and doesn't follow `task`.
 fn value_skips(plan: &Plan, branch: u32, task: u32, value: &TaskValue) -> bool
     requires { task < length plan.now.dag.tasks }
     ensures { result ≡ branch_skips plan.now.dag task branch value.now }
@@ -95,7 +96,8 @@ fn value_skips(plan: &Plan, branch: u32, task: u32, value: &TaskValue) -> bool
     }
 }
 
-/// Whether an upstream is a branch that succeeded and doesn't follow a task; false where there is no such upstream.
+/// Whether `upstream` is a branch that succeeded and doesn't follow `task`; false where `settled`, the tasks of the
+/// run, lacks it.
 pub fn is_skipping_branch(plan: &Plan, settled: &[Settled<'_>], upstream: u32, task: u32) -> bool
     requires { task < length plan.now.dag.tasks }
     ensures { result ≡ branch_is plan.now.dag (branch_skips plan.now.dag task upstream) upstream
@@ -109,7 +111,7 @@ pub fn is_skipping_branch(plan: &Plan, settled: &[Settled<'_>], upstream: u32, t
     }
 }
 
-/// Whether a task is blocked, and so has no status; true where there is no such task.
+/// Whether task number `task` is blocked, and so has no status; true where `settled`, the tasks of the run, lacks it.
 pub fn is_blocked(settled: &[Settled<'_>], task: u32) -> bool
     ensures { result ≡ is_blocked_in (value_among settled.now task) }
 {
@@ -119,7 +121,7 @@ pub fn is_blocked(settled: &[Settled<'_>], task: u32) -> bool
     }
 }
 
-/// Whether an upstream is a branch without a status; true too for a branch that isn't in `settled`.
+/// Whether `upstream` is a branch without a status; true for a branch that `settled`, the tasks of the run, lacks.
 pub fn is_blocked_branch(dag: &Dag, settled: &[Settled<'_>], upstream: u32) -> bool
     ensures { result ≡ branch_is dag.now is_blocked_in upstream
         (Some (value_among settled.now upstream)) }
@@ -127,7 +129,7 @@ pub fn is_blocked_branch(dag: &Dag, settled: &[Settled<'_>], upstream: u32) -> b
     dag.is_branch(upstream) && is_blocked(settled, upstream)
 }
 
-/// Whether one of these upstreams is a branch that succeeded and doesn't follow a task.
+/// Whether one of these upstreams is a branch that succeeded and doesn't follow `task`.
 fn has_skipping_branch(plan: &Plan, settled: &[Settled<'_>], task: u32, upstreams: &[u32]) -> bool
     requires { task < length plan.now.dag.tasks }
     ensures { result ≡ list_any (λ u. branch_is plan.now.dag (branch_skips plan.now.dag task u) u
@@ -136,8 +138,8 @@ fn has_skipping_branch(plan: &Plan, settled: &[Settled<'_>], task: u32, upstream
     upstreams.iter().any(|upstream| is_skipping_branch(plan, settled, *upstream, task))
 }
 
-/// Whether one of these upstreams is a branch that is blocked.
-fn any_is_blocked_branch(plan: &Plan, settled: &[Settled<'_>], upstreams: &[u32]) -> bool
+/// Whether one of these upstreams is a branch without a status.
+fn has_blocked_branch(plan: &Plan, settled: &[Settled<'_>], upstreams: &[u32]) -> bool
     ensures { result ≡ list_any (λ u. branch_is plan.now.dag is_blocked_in u
         (Some (value_among settled.now u))) upstreams.now }
 {
@@ -154,15 +156,15 @@ fn has_failed(ended: &TaskResult) -> bool
     matches!(ended.outcome, Outcome::Failed)
 }
 
-/// Whether none of these instances failed.
+/// Whether none of these instances failed; true where there are none.
 fn have_passed(results: &[TaskResult]) -> bool
     ensures { result ≡ list_all (λ ended. not (is_failed ended.outcome)) results.now }
 {
     results.iter().all(|ended| !has_failed(ended))
 }
 
-/// Whether a task that depends on its past goes on after this value of it in the run before: it was skipped, or ran
-/// and no instance failed.
+/// Whether a task that depends on its past may run after this value of it in the run before: it was skipped, or ran
+/// without a failed instance.
 #[tactic(auto, using(crate::proofs::CauseFacts::all_passed_is))]
 fn lets_pass(value: &TaskValue) -> bool
     ensures { result ≡ lets_pass_in value.now }
@@ -174,8 +176,8 @@ fn lets_pass(value: &TaskValue) -> bool
     }
 }
 
-/// Whether a task that depends on its past goes on after a run with these tasks; false where the run has no such
-/// task.
+/// Whether a task that depends on its past may run after the run with these tasks: it was skipped there, or ran without
+/// a failed instance. False where `settled` lacks it.
 fn has_passed(settled: &[Settled<'_>], task: u32) -> bool
     ensures { result ≡ lets_pass_in (value_among settled.now task) }
 {
@@ -185,8 +187,9 @@ fn has_passed(settled: &[Settled<'_>], task: u32) -> bool
     }
 }
 
-/// Whether its past lets `task`, which has this `number`, go on in `run`: it doesn't depend on it, the run is the
-/// first, 0, or it passed in the run before, whose tasks are `before`.
+/// Whether its past lets `task`, whose number is `number`, run in run number `run`: the task doesn't depend on it, the
+/// run is the first, 0, or the task was skipped or ran without a failed instance in the run before, whose tasks are
+/// `before`.
 fn past_lets_go_on(task: &Task, run: usize, before: &[Settled<'_>], number: u32) -> bool
     ensures { result ≡ past_lets_go_on_of task.now.depends_on_past run
         (before_among before.now run number) }
@@ -194,7 +197,7 @@ fn past_lets_go_on(task: &Task, run: usize, before: &[Settled<'_>], number: u32)
     !task.depends_on_past || run == 0 || has_passed(before, number)
 }
 
-/// Whether a task is expanded; false where there is no such task.
+/// Whether task number `task` is expanded; false where the graph has no such task.
 #[tactic(auto, unfolding(bf_plan::specs::Plans::task_of))]
 pub fn is_expanded(dag: &Dag, task: u32) -> bool
     ensures { result ≡ is_some (task_of dag.now task).expand }
@@ -215,7 +218,7 @@ fn count_pushed(results: &[TaskResult]) -> usize
         .count()
 }
 
-/// How many items are in the list that a source which isn't expanded pushed; None where it pushed no list.
+/// How many items are in the list that a task which isn't expanded pushed; None where it pushed no list.
 fn count_listed(results: &[TaskResult]) -> Option<usize>
     ensures { result ≡ item_count (items_of (SourceValues.Pushed (only_pushed_value_in results.now))) }
 {
@@ -228,8 +231,8 @@ fn count_listed(results: &[TaskResult]) -> Option<usize>
     }
 }
 
-/// How many items a source gives that ran with these results: how many values were pushed where it is expanded, else
-/// how many its list has; None where it pushed no list.
+/// How many items a task with these results gives the task expanded over it: the values that its instances pushed where
+/// it is expanded itself, else the length of the list that it pushed. None where it pushed no list.
 #[tactic(auto, using(crate::proofs::CauseFacts::pushed_count))]
 fn count_of_ran(is_expanded: bool, results: &[TaskResult]) -> Option<usize>
     ensures { result ≡ item_count (items_of
@@ -242,7 +245,8 @@ fn count_of_ran(is_expanded: bool, results: &[TaskResult]) -> Option<usize>
     }
 }
 
-/// How many items a source of this value gives; None where it didn't run, or isn't expanded and pushed no list.
+/// How many items a task with this value gives the task expanded over it. None where it didn't run, or isn't expanded
+/// and pushed no list.
 fn count_given(is_expanded: bool, value: &TaskValue) -> Option<usize>
     ensures { result ≡ item_count (items_of (values_given is_expanded value.now)) }
 {
@@ -252,8 +256,8 @@ fn count_given(is_expanded: bool, value: &TaskValue) -> Option<usize>
     }
 }
 
-/// How many items a source gives, by what a report has of it; None where it didn't run, or isn't expanded and pushed
-/// no list.
+/// How many items `source` gives the task expanded over it. None where it didn't run, isn't expanded and pushed no
+/// list, or `settled`, the tasks of the run, lacks it.
 #[tactic(auto, using(crate::proofs::CauseFacts::items_by))]
 fn count_items(dag: &Dag, settled: &[Settled<'_>], source: u32) -> Option<usize>
     ensures { result ≡ item_count (items (task_of dag.now source)
@@ -265,8 +269,8 @@ fn count_items(dag: &Dag, settled: &[Settled<'_>], source: u32) -> Option<usize>
     }
 }
 
-/// Why this is decided of a task that its rule and its past let run, by `expand`, the source of its items; it runs as
-/// one instance where that is None.
+/// The cause for a task that its rule and its past let run: whether `expand`, the task that it is expanded over, gives
+/// items. Where that is None it runs as one instance.
 fn cause_by_source(dag: &Dag, settled: &[Settled<'_>], expand: Option<u32>) -> StateCause
     ensures { (pulled : List (Option Xval)) →
         result ≡ cause_of (cause_by_source_of dag.now (seen_among settled.now) pulled expand) }
@@ -281,8 +285,9 @@ fn cause_by_source(dag: &Dag, settled: &[Settled<'_>], expand: Option<u32>) -> S
     }
 }
 
-/// Why this is decided of the task `number` that its rule lets run: by its past, and else by the source of its items.
-/// `before` are the tasks of the run before, none for the first, `run` 0.
+/// The cause for task number `number` that its rule lets run: its past where that holds it back, else the items that it
+/// is expanded over. `settled` are the tasks of run number `run`, and `before` those of the run before, empty for run
+/// 0.
 fn cause_by_past(
     dag: &Dag,
     run: usize,
@@ -302,8 +307,8 @@ fn cause_by_past(
     }
 }
 
-/// Why this is decided of the task `number`, whose rule has this verdict. `settled` are the tasks of the run and
-/// `before` those of the run before, none for the first, `run` 0.
+/// The cause for task number `number`, whose rule has this verdict. `settled` are the tasks of run number `run`, and
+/// `before` those of the run before, empty for run 0.
 fn cause_by_verdict(
     dag: &Dag,
     run: usize,
@@ -325,7 +330,7 @@ fn cause_by_verdict(
     }
 }
 
-/// The task of this number, with at most 20,000 upstreams.
+/// The task of this number, which has at most 20,000 upstreams.
 fn task_in(plan: &Plan, task: u32) -> &Task
     requires { task < length plan.now.dag.tasks }
     ensures task { result.now ≡ task_of plan.now.dag task }
@@ -334,8 +339,8 @@ fn task_in(plan: &Plan, task: u32) -> &Task
     plan.dag().task(task)
 }
 
-/// Why the graph decides what it does of a task in the run of this number, 0 for the first. `settled` are the tasks
-/// of the run and `before` those of the run before, none for the first.
+/// Why the graph decides what it does of task number `task` in run number `run`, from 0. `settled` are the tasks of the
+/// run and `before` those of the run before, empty for the first.
 pub fn cause_at(
     plan: &Plan,
     run: usize,
@@ -352,7 +357,7 @@ pub fn cause_at(
     if has_skipping_branch(plan, settled, task, upstreams) {
         return StateCause::NotFollowed;
     }
-    if any_is_blocked_branch(plan, settled, upstreams) {
+    if has_blocked_branch(plan, settled, upstreams) {
         return StateCause::BranchIsBlocked;
     }
     let counts = counts_of_upstreams(settled, upstreams);

@@ -14,8 +14,8 @@ use bf_plan::Plan;
 use bf_report::TaskReport;
 use bf_xcom::{Outcome, TaskResult};
 
-/// The letter of an instance by how it ended: s for a success in its first try, r for one in a later, f for failed, x
-/// for skipped.
+/// The letter for how an instance ended: `s` for a success in its first try, `r` for one in a later try, `f` for
+/// failed, `x` for skipped.
 pub fn ended_letter(ended: &TaskResult) -> u8
     ensures letter { result ≡ ended_letter_of ended.now.outcome ended.now.tries }
     ensures ascii { result < 128 }
@@ -28,15 +28,15 @@ pub fn ended_letter(ended: &TaskResult) -> u8
     }
 }
 
-/// Whether one of these instances has this letter.
-fn some_has_letter(results: &[TaskResult], letter: u8) -> bool
+/// Whether one of these instances has this letter, by how it ended.
+fn has_letter(results: &[TaskResult], letter: u8) -> bool
     ensures { result ≡ list_any (λ ended. ended_letter_of ended.outcome ended.tries == letter)
         results.now }
 {
     results.iter().any(|ended| ended_letter(ended) == letter)
 }
 
-/// The first of f, r and s whose flag is set, or else x.
+/// The first of `f`, `r` and `s` whose flag is set; `x` where none is.
 fn letter_by_flags(some_f: bool, some_r: bool, some_s: bool) -> u8
     ensures letter { result ≡ letter_by_flags_of some_f some_r some_s }
     ensures ascii { result < 128 }
@@ -49,7 +49,7 @@ fn letter_by_flags(some_f: bool, some_r: bool, some_s: bool) -> u8
     }
 }
 
-/// The first of f, r and s that one of these instances has, or else x.
+/// The first of `f`, `r` and `s` that one of these instances has; `x` where none has one of them.
 fn first_letter(results: &[TaskResult]) -> u8
     ensures letter { (instances : List InstanceReport) → results.now
         ≡ map (λ instance. instance.result) instances →
@@ -57,13 +57,13 @@ fn first_letter(results: &[TaskResult]) -> u8
     ensures ascii { result < 128 }
 {
     letter_by_flags(
-        some_has_letter(results, b'f'),
-        some_has_letter(results, b'r'),
-        some_has_letter(results, b's'),
+        has_letter(results, b'f'),
+        has_letter(results, b'r'),
+        has_letter(results, b's'),
     )
 }
 
-/// The letter of an expanded task whose instances this graph decides, by `first_letter` of its instances.
+/// The letter of an expanded task that follows from the graph: `first`, as `first_letter` gives it, in upper case.
 fn uppercase_letter(first: u8) -> u8
     ensures letter { result ≡ uppercase_letter_of first }
     ensures ascii { result < 128 }
@@ -76,7 +76,8 @@ fn uppercase_letter(first: u8) -> u8
     }
 }
 
-/// The digit of an expanded task whose instances don't follow from this graph, by `first_letter` of its instances.
+/// The digit of an expanded task that doesn't follow from the graph, by `first`, as `first_letter` gives it: 8 for `f`,
+/// 9 for `x`, else 7.
 fn expanded_digit(first: u8) -> u8
     ensures letter { result ≡ expanded_digit_of first }
     ensures ascii { result < 128 }
@@ -88,7 +89,7 @@ fn expanded_digit(first: u8) -> u8
     }
 }
 
-/// The letter of a skipped task by its cause; a digit where the cause doesn't skip it.
+/// The letter for why a task is skipped; the digit 4 where this cause doesn't skip it.
 fn skipped_letter(cause: StateCause) -> u8
     ensures letter { (expanded : Bool) → result ≡ letter_for expanded cause TaskReport.Skipped }
     ensures ascii { result < 128 }
@@ -101,7 +102,7 @@ fn skipped_letter(cause: StateCause) -> u8
     }
 }
 
-/// The letter of an upstream_failed task by its cause; a digit where the cause doesn't make it so.
+/// The letter for why a task is upstream_failed; the digit 5 where this cause doesn't make it so.
 fn upstream_failed_letter(cause: StateCause) -> u8
     ensures letter { (expanded : Bool) → result
         ≡ letter_for expanded cause TaskReport.UpstreamFailed }
@@ -114,7 +115,7 @@ fn upstream_failed_letter(cause: StateCause) -> u8
     }
 }
 
-/// The letter of a task without a status by its cause; a digit where the cause gives it one.
+/// The letter for why a task has no status; the digit 6 where this cause gives it one.
 fn no_status_letter(cause: StateCause) -> u8
     ensures letter { (expanded : Bool) → result ≡ letter_for expanded cause TaskReport.NoStatus }
     ensures ascii { result < 128 }
@@ -127,8 +128,8 @@ fn no_status_letter(cause: StateCause) -> u8
     }
 }
 
-/// The letter of a task that a report has as one instance, by its result; a digit where the cause isn't that it runs,
-/// or the task is expanded.
+/// The letter of a task that a report has as one instance, by how that ended. A digit, 1 to 3, where the graph expands
+/// the task or this cause doesn't let it run.
 fn ran_letter(is_expanded: bool, cause: StateCause, ended: &TaskResult) -> u8
     ensures letter { (instance : InstanceReport) → instance.result ≡ ended.now →
         result ≡ letter_for is_expanded cause (TaskReport.Ran instance) }
@@ -144,7 +145,7 @@ fn ran_letter(is_expanded: bool, cause: StateCause, ended: &TaskResult) -> u8
     }
 }
 
-/// Whether a cause lets a task run with exactly `count` instances.
+/// Whether a cause lets a task run as exactly `count` instances.
 fn runs_with_count(cause: StateCause, count: usize) -> bool
     ensures { result ≡ runs_with_count_in cause count }
 {
@@ -154,8 +155,8 @@ fn runs_with_count(cause: StateCause, count: usize) -> bool
     }
 }
 
-/// The letter of a task that a report has as expanded, by its instances' results; a digit where the cause isn't that
-/// it runs with so many, or the task isn't expanded.
+/// The uppercase letter of a task that a report has as expanded, by how its instances ended. A digit, 7 to 9, where the
+/// graph doesn't expand the task, or this cause doesn't let it run as so many instances.
 fn mapped_letter(is_expanded: bool, cause: StateCause, results: &[TaskResult]) -> u8
     ensures letter { (instances : List InstanceReport) → results.now
         ≡ map (λ instance. instance.result) instances →
@@ -170,8 +171,8 @@ fn mapped_letter(is_expanded: bool, cause: StateCause, results: &[TaskResult]) -
     }
 }
 
-/// The letter of a task for this cause, by what a report has of the task; a digit where that doesn't follow from the
-/// cause.
+/// The letter of a task, by its report and the cause of what the graph decides for it; a digit where the report doesn't
+/// follow from that cause.
 pub fn letter_by(is_expanded: bool, cause: StateCause, settled: &Settled<'_>) -> u8
     ensures letter { result ≡ letter_for is_expanded cause settled.now }
     ensures ascii { result < 128 }
@@ -186,8 +187,9 @@ pub fn letter_by(is_expanded: bool, cause: StateCause, settled: &Settled<'_>) ->
     }
 }
 
-/// The letter of a task, which the report has as `told`, in the run of this number, 0 for the first. `settled` are
-/// the tasks of the run and `before` those of the run before, none for the first.
+/// The letter of task number `task` in run number `run`, from 0, which the report has as `told`; a digit where that
+/// isn't what the graph decides. `settled` are the tasks of the run and `before` those of the run before, empty for the
+/// first.
 pub fn letter_at(
     plan: &Plan,
     run: usize,

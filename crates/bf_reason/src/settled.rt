@@ -14,8 +14,8 @@ use bf_xcom::{Outcome, TaskResult, TaskValue};
 use std::alloc::Global;
 use std::marker::Model;
 
-/// What a report has of a task in a run, with the value of the task and its instances counted, so that neither is
-/// worked out again for each task that looks at it. Contracts see what the report has.
+/// A task of a run as a report has it, with its value and the counts of its instances worked out once. Contracts see
+/// just the report of the task.
 #[derive(Drop)]
 pub struct Settled<'a> {
     told: &'a TaskReport,
@@ -38,7 +38,7 @@ impl<'a> Model for Settled<'a> {
     ghost invariant = { λ s. IsCounted s.told.now s.value s.counts };
 }
 
-/// The counts of one instance with this outcome.
+/// The counts of one instance that ended with this outcome.
 fn counts_of_outcome(outcome: &Outcome) -> Counts
     ensures { result ≡ one_of outcome.now }
 {
@@ -51,7 +51,7 @@ fn counts_of_outcome(outcome: &Outcome) -> Counts
     counts
 }
 
-/// How many of these instances ended in each state.
+/// How many of these instances, at most 1,024, ended in each state.
 fn counts_of_results(results: &[TaskResult]) -> Counts
     requires { length results.now ≤ 1_024 }
     ensures counts { result ≡ counts_of_results_of results.now }
@@ -64,7 +64,7 @@ fn counts_of_results(results: &[TaskResult]) -> Counts
     counts
 }
 
-/// How many instances of a task of this value are in each state; a task without a try counts as one.
+/// How many instances of a task with this value are in each state; a task that didn't run counts as one instance.
 fn counts_of(value: &TaskValue) -> Counts
     requires { IsFewValue value.now }
     ensures counts { result ≡ counts_in value.now }
@@ -88,7 +88,7 @@ fn counts_of(value: &TaskValue) -> Counts
 }
 
 impl<'a> Settled<'a> {
-    /// What a report has of a task in a run, with its value worked out once. The task has at most 1,024 instances.
+    /// Works out the value and the counts of a task, as a report has it, with at most 1,024 instances.
     pub fn new(alloc: Global, told: &'a TaskReport) -> Result<Settled<'a>, OutOfMemory>
         requires { IsFewTask told.now }
         ensures { IfOk result (λ settled. settled ≡ told.entry.now) }
@@ -102,21 +102,22 @@ impl<'a> Settled<'a> {
         })
     }
 
-    /// What the report has of the task.
+    /// The task as the report has it.
     pub fn task_report(&self) -> &TaskReport
         ensures { result.now ≡ self.now }
     {
         self.told
     }
 
-    /// The value of the task, as decisions see it.
+    /// The value of the task, as the decisions on other tasks see it.
     pub fn value(&self) -> &TaskValue
         ensures { result.now ≡ value_in self.now }
     {
         &self.value
     }
 
-    /// How many instances are in each state; a task without a try counts as one.
+    /// How many instances of the task are in each state, at most 1,024 in all; a task that didn't run counts as one
+    /// instance.
     pub fn counts(&self) -> Counts
         ensures counts { result ≡ counts_in (value_in self.now) }
         ensures few { total_of result ≤ 1_024 }
@@ -124,7 +125,7 @@ impl<'a> Settled<'a> {
         self.counts
     }
 
-    /// The results of the task's instances, by map index; none where it has no try.
+    /// The results of the task's instances, by map index; empty where it didn't run.
     pub fn results(&self) -> &[TaskResult]
         ensures { result.now ≡ results_of (value_in self.now) }
     {
@@ -135,7 +136,7 @@ impl<'a> Settled<'a> {
     }
 }
 
-/// What a report has of each of these tasks, in their order, with its value worked out once. A task has at most 1,024
+/// Each of these tasks of a run, in order, with its value and the counts of its instances. None has more than 1,024
 /// instances.
 pub fn settled_tasks<'a>(
     alloc: Global,

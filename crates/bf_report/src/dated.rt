@@ -16,7 +16,8 @@ use bf_value::{OutOfMemory, Sequence, Text};
 use bf_xcom::RunState;
 use std::alloc::Global;
 
-/// The report of a task by its instances: all of an expanded one, and of another the first, no_status without one.
+/// Makes the report of a task from its finished instances: all of them for an expanded task, else the first, and
+/// `NoStatus` where there is none.
 fn task_report_of(is_expanded: bool, mut instances: Vec<InstanceReport>) -> TaskReport
     ensures report { result ≡ reported_instances is_expanded instances.items }
     ensures sound { AreSoundInstances instances.items → IsSoundTask result }
@@ -30,7 +31,7 @@ fn task_report_of(is_expanded: bool, mut instances: Vec<InstanceReport>) -> Task
     TaskReport::Ran(instances.swap_remove(0))
 }
 
-/// The report of a task in a run by its cell of the state; no_status where it is undecided or blocked.
+/// Makes the report of a task from its cell in one run; `NoStatus` where the cell is undecided or blocked.
 fn task_report(alloc: Global, dag: &Dag, task: u32, cell: &Cell) -> Result<TaskReport, OutOfMemory>
     requires dag { IsSound dag.now }
     requires task { task < length dag.now.tasks }
@@ -48,7 +49,7 @@ fn task_report(alloc: Global, dag: &Dag, task: u32, cell: &Cell) -> Result<TaskR
     }
 }
 
-/// The report of a task in a run of a state; no_status where there is no cell.
+/// Makes the report of a task in one run of a state; `NoStatus` where the state has no such cell.
 fn report_at(
     alloc: Global,
     dag: &Dag,
@@ -67,7 +68,7 @@ fn report_at(
     }
 }
 
-/// The reports of all tasks in a run of a state, in file order.
+/// Makes the reports of all tasks in one run of a state, in file order.
 fn task_reports(
     alloc: Global,
     dag: &Dag,
@@ -87,7 +88,7 @@ fn task_reports(
     Ok(Sequence::from_vec(reports))
 }
 
-/// The ids of these tasks, in order.
+/// Copies the ids of these tasks, in order.
 fn ids_of(alloc: Global, tasks: &[Task]) -> Result<Sequence<Text>, OutOfMemory>
     ensures { IfOk result (λ ids. ids ≡ map (λ task. task.id) tasks.now) }
 {
@@ -98,7 +99,7 @@ fn ids_of(alloc: Global, tasks: &[Task]) -> Result<Sequence<Text>, OutOfMemory>
     Ok(Sequence::from_vec(ids))
 }
 
-/// The ids of the tasks as a report has them: none where it has no runs, and so no data `intervals`.
+/// Gives the ids of all tasks, in file order, for a report; none where there are no runs (`intervals` is empty).
 fn shown_ids(
     alloc: Global,
     dag: &Dag,
@@ -112,7 +113,7 @@ fn shown_ids(
     ids_of(alloc, dag.tasks.as_slice())
 }
 
-/// The reports of all runs, by date: `state` has the cells of the tasks, `states` the state of each run.
+/// Makes the reports of all runs, by date. Run `n` has `intervals[n]` and `states[n]`, and its cells in `state`.
 fn run_reports(
     alloc: Global,
     dag: &Dag,
@@ -141,10 +142,8 @@ fn run_reports(
     Ok(Sequence::from_vec(runs))
 }
 
-/// The report, of version 2, of a backfill over these runs that has ended: the states and the cells of the recursion
-/// over the ledger of its tries. So each instance is told with the result of its last try, and with the item and the
-/// pulled values of its entries in the ledger, which are one for all its tries; a pulled value stands under the id of
-/// the task that it was pulled from.
+/// Makes the report, of version 2, of an ended backfill over these runs. Each instance has the result of its last try,
+/// its item, and what it pulled, under the id of the task that it was pulled from.
 pub fn report_of(alloc: Global, runs: &Runs, ended: &Ended<'_>) -> Result<Report, OutOfMemory>
     requires { length runs.now ≡ ended.now.runs }
     ensures dated { IfOk result (IsDated ended.now.dag runs.now (entry_in ended.now.state.ledger)) }

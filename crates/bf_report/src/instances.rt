@@ -10,19 +10,19 @@ use crate::report::{InstanceReport, Pull};
 use bf_core::{Instance, Phase};
 use bf_plan::Dag;
 use bf_value::{OutOfMemory, Sequence, Xval, copy_option};
-use bf_xcom::{Outcome, Pulled, TaskResult};
+use bf_xcom::{Outcome, SharedValue, TaskResult};
 use std::alloc::Global;
 
-/// A law: an outcome's value is sound, as its type knows. Nothing is done.
+/// A law: the value in an outcome is sound, which its type guarantees. It does nothing at run time.
 fn outcome_is_sound(outcome: &Outcome)
     ensures { IsSoundOutcome outcome.now }
 {
-    if let Outcome::Success(Some(value)) = outcome {
+    if let Some(value) = outcome.pushed() {
         value.value_is_sound();
     }
 }
 
-/// The result of an instance that ended with this outcome; `tries` is the number of its last try.
+/// Gives the result of an instance whose last try, numbered `tries`, ended with this outcome. The outcome is copied.
 fn result_of(alloc: Global, outcome: &Outcome, tries: u32) -> Result<TaskResult, OutOfMemory>
     ensures result { IfOk result (λ r. r ≡ record { outcome = outcome.now; tries = tries }) }
     ensures sound { IfOk result (λ r. IsSoundOutcome r.outcome) }
@@ -34,7 +34,7 @@ fn result_of(alloc: Global, outcome: &Outcome, tries: u32) -> Result<TaskResult,
     })
 }
 
-/// A copy of a value; None of None.
+/// Copies a value, if there is one.
 fn copy_of(alloc: Global, value: &Option<Xval>) -> Result<Option<Xval>, OutOfMemory>
     ensures value { IfOk result (λ v. v ≡ value.now) }
     ensures sound { IfOk result IsSoundValue }
@@ -45,19 +45,19 @@ fn copy_of(alloc: Global, value: &Option<Xval>) -> Result<Option<Xval>, OutOfMem
     copy_option(alloc, value.as_ref())
 }
 
-/// The same pulled value, which shares its memory. Contracts see no sharing.
-fn share_of(pulled: &Pulled) -> Result<Pulled, OutOfMemory>
-    ensures value { IfOk result (λ v. v ≡ pulled.now) }
+/// Gives the same value or nothing, sharing its memory rather than copying it. Contracts don't see the sharing.
+fn share_of(shared: &SharedValue) -> Result<SharedValue, OutOfMemory>
+    ensures value { IfOk result (λ v. v ≡ shared.now) }
     ensures sound { IfOk result IsSoundValue }
 {
-    if let Some(value) = pulled.get() {
+    if let Some(value) = shared.get() {
         value.value_is_sound();
     }
-    pulled.share()
+    shared.share()
 }
 
-/// The pull from the task of a number: its id, and the value pulled from it.
-fn pull_of(alloc: Global, dag: &Dag, task: u32, pulled: &Pulled) -> Result<Pull, OutOfMemory>
+/// Makes the pull from the task of this number: the task's id and the pulled value.
+fn pull_of(alloc: Global, dag: &Dag, task: u32, pulled: &SharedValue) -> Result<Pull, OutOfMemory>
     requires { task < length dag.now.tasks }
     ensures pull { IfOk result (λ pull. pull
         ≡ record { task = (task_of dag.now task).id; value = pulled.now }) }
@@ -69,12 +69,12 @@ fn pull_of(alloc: Global, dag: &Dag, task: u32, pulled: &Pulled) -> Result<Pull,
     })
 }
 
-/// The pulls from these tasks, each with the task's id and its one of `values`, in order.
+/// Makes the pulls from these tasks: the first task goes with the first of `values`, and so on.
 fn pulls_of(
     alloc: Global,
     dag: &Dag,
     tasks: &[u32],
-    values: &[Pulled],
+    values: &[SharedValue],
 ) -> Result<Sequence<Pull>, OutOfMemory>
     requires { All (λ task. task < length dag.now.tasks) tasks.now }
     ensures pulls { IfOk result (λ pulls. pulls ≡ pulls_in dag.now tasks.now values.now) }
@@ -87,7 +87,7 @@ fn pulls_of(
     Ok(Sequence::from_vec(pulls))
 }
 
-/// The report of an instance of a task; None where it hasn't finished.
+/// Makes the report of one instance of a task; None where the instance hasn't finished.
 fn instance_report(
     alloc: Global,
     dag: &Dag,
@@ -111,7 +111,7 @@ fn instance_report(
     )?))
 }
 
-/// The reports of those instances of a task that have finished, in order; others are left out.
+/// Makes the reports of a task's finished instances, in order; leaves out those that haven't finished.
 pub(crate) fn instance_reports(
     alloc: Global,
     dag: &Dag,

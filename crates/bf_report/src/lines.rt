@@ -9,7 +9,7 @@ use bf_value::{OutOfMemory, Text, Xval, text_of};
 use bf_xcom::RunState;
 use std::alloc::Global;
 
-/// Adds a value as compact JSON, or `-` for None. No line feed.
+/// Adds a value as compact JSON, or `-` for None, without a line feed.
 fn push_value(alloc: Global, text: &mut String, value: Option<&Xval>) -> Result<(), OutOfMemory>
     ensures { OnOk result (string_bytes text.new ≡ string_bytes text.old
         ++ pulled_word (option_copied value.entry)) }
@@ -21,7 +21,8 @@ fn push_value(alloc: Global, text: &mut String, value: Option<&Xval>) -> Result<
     Ok(())
 }
 
-/// Adds the end of an instance's line: how it ended, the number of its last try, what it pushed, and the line feed.
+/// Adds the rest of an instance's line: the word for how its last try ended, that try's number, what it pushed or `-`,
+/// and the line feed.
 fn push_result(
     alloc: Global,
     text: &mut String,
@@ -38,7 +39,7 @@ fn push_result(
     Ok(())
 }
 
-/// Adds the `@item` line of an instance; nothing where it has no item.
+/// Adds the `@item` line of an instance; adds nothing where there is no item.
 fn push_item(alloc: Global, text: &mut String, item: Option<&Xval>) -> Result<(), OutOfMemory>
     ensures { OnOk result (string_bytes text.new ≡ string_bytes text.old
         ++ item_line (option_copied item.entry)) }
@@ -52,7 +53,7 @@ fn push_item(alloc: Global, text: &mut String, item: Option<&Xval>) -> Result<()
     Ok(())
 }
 
-/// Adds the `@pull` line of a pull, `-` for its value where nothing was pushed.
+/// Adds the `@pull` line of one pull, with `-` for its value where nothing was pushed.
 fn push_pull(alloc: Global, text: &mut String, pull: &Pull) -> Result<(), OutOfMemory>
     ensures { OnOk result (string_bytes text.new ≡ string_bytes text.old ++ pull_line pull.now) }
 {
@@ -74,7 +75,7 @@ fn push_pulls(alloc: Global, text: &mut String, pulls: &[Pull]) -> Result<(), Ou
     Ok(())
 }
 
-/// Adds the lines of what an instance was given: its item, where it has one, and its pulls.
+/// Adds the lines of what an instance was given: its `@item` line, if it has an item, and its `@pull` lines.
 fn push_given(
     alloc: Global,
     text: &mut String,
@@ -87,7 +88,7 @@ fn push_given(
     push_pulls(alloc, text, instance.pulls())
 }
 
-/// Adds the lines of a task that isn't expanded, under its id and the map index -1: its result, item and pulls.
+/// Adds all lines of the only instance of the task `id`, which isn't expanded: its map index is -1.
 fn push_unmapped(
     alloc: Global,
     text: &mut String,
@@ -102,7 +103,7 @@ fn push_unmapped(
     push_given(alloc, text, instance)
 }
 
-/// Adds the lines of an instance of the expanded task `id`, under its map index: its result, item and pulls.
+/// Adds all lines of the instance at this map index of the expanded task `id`: its result, item and pulls.
 fn push_instance(
     alloc: Global,
     text: &mut String,
@@ -118,7 +119,7 @@ fn push_instance(
     push_given(alloc, text, instance)
 }
 
-/// Adds the lines of all instances of the expanded task `id`, by map index.
+/// Adds the lines of all instances of the expanded task `id`, in order of map index.
 fn push_mapped(
     alloc: Global,
     text: &mut String,
@@ -134,7 +135,7 @@ fn push_mapped(
     Ok(())
 }
 
-/// Adds the line of the task `id` without a try; `state` is the word for its state.
+/// Adds the line of the task `id`, which had no try; `state` is the word for its state.
 fn push_untried(text: &mut String, id: &str, state: &str) -> Result<(), OutOfMemory>
     ensures { OnOk result (string_bytes text.new ≡ string_bytes text.old
         ++ untried_line id.now state.now) }
@@ -143,7 +144,7 @@ fn push_untried(text: &mut String, id: &str, state: &str) -> Result<(), OutOfMem
     Ok(())
 }
 
-/// Adds the lines of the task `id` in a run: one where it has no try, and else those of its instances.
+/// Adds the lines of the task `id` in one run: a single line where it had no try, else those of its instances.
 fn push_task(
     alloc: Global,
     text: &mut String,
@@ -162,7 +163,7 @@ fn push_task(
     }
 }
 
-/// Adds the lines of the tasks of a run; `ids` has the id of each, in order.
+/// Adds the lines of a run's tasks, in order; `ids` has their ids in the same order.
 fn push_tasks(
     alloc: Global,
     text: &mut String,
@@ -178,7 +179,7 @@ fn push_tasks(
     Ok(())
 }
 
-/// The word for the state of a run.
+/// Gives the word for a run's state, `success` or `failed`.
 fn run_state_word(state: RunState) -> &'static str
     ensures { result.now ≡ run_state_word_of state }
 {
@@ -201,7 +202,7 @@ fn push_run_line(text: &mut String, run: &RunReport) -> Result<(), OutOfMemory>
     Ok(())
 }
 
-/// Adds the lines of a run: its own, and those of its tasks, whose ids are `ids`.
+/// Adds the lines of a run: its `@run` line and those of its tasks, whose ids are `ids` in the same order.
 fn push_run(
     alloc: Global,
     text: &mut String,
@@ -215,7 +216,7 @@ fn push_run(
     push_tasks(alloc, text, ids, run.tasks.as_slice())
 }
 
-/// Adds the lines of all these runs; `ids` are the ids of their tasks.
+/// Adds the lines of all these runs, in order; `ids` has the ids of their tasks.
 fn push_runs(
     alloc: Global,
     text: &mut String,
@@ -231,7 +232,7 @@ fn push_runs(
     Ok(())
 }
 
-/// The word for a report's version, on its first line.
+/// Gives the word for a report's version on its first line, `1` or `2`.
 fn version_word(version: Version) -> &'static str
     ensures { result.now ≡ version_word_of version }
 {
@@ -241,7 +242,7 @@ fn version_word(version: Version) -> &'static str
     }
 }
 
-/// The whole text of a report, from the `@backfill` line to the `@end` line, its line feed included.
+/// Makes the whole text of a report, from its `@backfill` line to its `@end` line, with the last line feed.
 pub(crate) fn text_of_report(alloc: Global, report: &Report) -> Result<String, OutOfMemory>
     ensures { IfOk result (λ text. string_bytes text ≡ report_text report.now) }
 {

@@ -5,26 +5,25 @@ ghost use Rattle.bf_report.specs.Told.{told_by};
 
 use bf_interval::Interval;
 use bf_value::{OutOfMemory, Sequence, Text, Xval};
-use bf_xcom::{Outcome, Pulled, RunState, TaskResult};
+use bf_xcom::{Outcome, RunState, SharedValue, TaskResult};
 use std::alloc::Global;
 use std::marker::Model;
 
-/// The version of a report. One of version 1 doesn't tell what the instances were given: in it no instance has an
-/// item or pulls.
+/// The version of a report. In version 1 instances have neither items nor pulls.
 #[derive(Clone, Copy, Debug, PartialEq, Eq)]
 pub enum Version {
     One,
     Two,
 }
 
-/// What an instance pulled from the task of an id: a value or nothing.
+/// What an instance pulled from the task with this id: a value, or nothing.
 #[derive(Debug, Drop)]
 pub struct Pull {
     pub task: Text,
-    pub value: Pulled,
+    pub value: SharedValue,
 }
 
-/// What is told of an instance that pushed a value or was given something.
+/// How an instance ended, with what it pushed and was given.
 #[derive(Debug, Drop)]
 struct Told {
     outcome: Outcome,
@@ -32,7 +31,7 @@ struct Told {
     pulls: Sequence<Pull>,
 }
 
-/// How an instance is kept: one that pushed nothing and was given nothing is no more than a word.
+/// How an instance is stored: in full only where it pushed something or was given something.
 #[derive(Debug, Drop)]
 enum Kept {
     Success,
@@ -42,7 +41,7 @@ enum Kept {
 }
 
 impl Kept {
-    /// What is kept of an instance that pushed a value or was given something, but for its number of tries.
+    /// Stores an instance in full, all but the number of its tries.
     #[inline(always)]
     fn new(
         alloc: Global,
@@ -66,11 +65,10 @@ impl Kept {
     }
 }
 
-/// An instance with at least one try: what came of it, and what all its tries were given, which is its item, for an
-/// instance of an expanded task, and what it pulled, in the order of its task's pulls.
+/// An instance with at least one try: how the last one ended, the item that it was given, if its task is expanded, and
+/// what it pulled, in the order of its task's pulls.
 ///
-/// Most instances push nothing and are given nothing. What the others have stands in a box, so that a report of many tasks
-/// is a quarter as large.
+/// Most instances push nothing and are given nothing, so that they take no more than a word; the others stand in a box.
 #[derive(Debug, Drop)]
 pub struct InstanceReport {
     tries: u32,
@@ -101,7 +99,7 @@ impl Model for InstanceReport {
 impl InstanceReport {
     ghost use Rattle.bf_report.specs.Report.{state_word, value_word, pulled_word};
 
-    /// An instance with how it ended, without an item and without pulls.
+    /// Makes an instance that ended so, without an item and without pulls.
     #[inline(always)]
     pub fn new_bare(alloc: Global, ended: TaskResult) -> Result<InstanceReport, OutOfMemory>
         ensures { IfOk result (λ instance. instance
@@ -109,18 +107,21 @@ impl InstanceReport {
     {
         let TaskResult { outcome, tries } = ended;
         let kept = match outcome {
-            Outcome::Success(None) => Kept::Success,
+            Outcome::Success(pushed) => {
+                if pushed.get().is_none() {
+                    Kept::Success
+                } else {
+                    let outcome = Outcome::Success(pushed);
+                    Kept::new(alloc, outcome, None, Sequence::new(alloc))?
+                }
+            }
             Outcome::Failed => Kept::Failed,
             Outcome::Skipped => Kept::Skipped,
-            Outcome::Success(Some(value)) => {
-                let outcome = Outcome::Success(Some(value));
-                Kept::new(alloc, outcome, None, Sequence::new(alloc))?
-            }
         };
         Ok(InstanceReport { tries, kept })
     }
 
-    /// An instance, with how it ended, its item, None for a task that isn't expanded, and its pulls.
+    /// Makes an instance that ended so, with its item, None for a task that isn't expanded, and its pulls.
     pub fn new(
         alloc: Global,
         ended: TaskResult,
@@ -138,12 +139,12 @@ impl InstanceReport {
         Ok(InstanceReport { tries, kept })
     }
 
-    /// How the last try of the instance ended, and its number. The value that it pushed is copied.
+    /// Gives how the instance's last try ended, and that try's number. The value that it pushed is copied.
     pub fn result(&self, alloc: Global) -> Result<TaskResult, OutOfMemory>
         ensures { IfOk result (λ ended. ended ≡ self.now.result) }
     {
         let outcome = match &self.kept {
-            Kept::Success => Outcome::Success(None),
+            Kept::Success => Outcome::Success(SharedValue::nothing()),
             Kept::Failed => Outcome::Failed,
             Kept::Skipped => Outcome::Skipped,
             Kept::Told(told) => told.outcome.copy(alloc)?,
@@ -152,7 +153,7 @@ impl InstanceReport {
         Ok(TaskResult { outcome, tries })
     }
 
-    /// The word for how the instance's last try ended.
+    /// Gives the word for how the instance's last try ended.
     pub(crate) fn state(&self) -> &'static str
         ensures { result.now ≡ state_word self.now.result.outcome }
     {
@@ -168,27 +169,27 @@ impl InstanceReport {
         }
     }
 
-    /// The number of the instance's last try.
+    /// Gives the number of the instance's last try, from 1.
     pub(crate) fn tries(&self) -> u32
         ensures { result ≡ self.now.result.tries }
     {
         self.tries
     }
 
-    /// What the instance pushed; None where it pushed nothing or didn't succeed.
+    /// Gives the value that the instance pushed; None where it pushed nothing or didn't succeed.
     pub(crate) fn pushed(&self) -> Option<&Xval>
         ensures { pulled_word (option_copied result) ≡ value_word self.now.result.outcome }
     {
         match &self.kept {
             Kept::Told(told) => match &told.outcome {
-                Outcome::Success(pushed) => pushed.as_ref(),
+                Outcome::Success(pushed) => pushed.get(),
                 Outcome::Failed | Outcome::Skipped => None,
             },
             Kept::Success | Kept::Failed | Kept::Skipped => None,
         }
     }
 
-    /// The item that the instance was given; None where it was given none.
+    /// Gives the item that the instance was given; None where it was given none.
     pub fn item(&self) -> Option<&Xval>
         ensures { option_copied result ≡ self.now.item }
     {
@@ -198,7 +199,7 @@ impl InstanceReport {
         }
     }
 
-    /// What the instance pulled, in the order of its task's pulls.
+    /// Gives what the instance pulled, in the order of its task's pulls.
     pub fn pulls(&self) -> &[Pull]
         ensures { result.now ≡ self.now.pulls }
     {
@@ -208,7 +209,7 @@ impl InstanceReport {
         }
     }
 
-    /// Sets the item that the instance was given, in the place of the one before.
+    /// Sets the instance's item, in place of any before.
     pub fn set_item(&mut self, alloc: Global, item: Xval) -> Result<(), OutOfMemory>
         ensures { OnOk result (self.new ≡ record self.old { item = Some item }) }
     {
@@ -221,7 +222,7 @@ impl InstanceReport {
         Ok(())
     }
 
-    /// Adds a pull of the instance after the others.
+    /// Adds a pull behind the instance's other pulls.
     pub fn add_pull(&mut self, alloc: Global, pull: Pull) -> Result<(), OutOfMemory>
         ensures { OnOk result (self.new ≡ record self.old { pulls = self.old.pulls ++ pull ∷ [] }) }
     {
@@ -236,9 +237,9 @@ impl InstanceReport {
     }
 }
 
-/// What came of a task in a run: it was blocked, which is reported as `no_status`; or it was skipped, or
-/// upstream_failed, without a try; or it ran, as one instance or, for an expanded task, with an instance for each
-/// item by map index.
+/// What came of a task in one run. `NoStatus` stands for a blocked or undecided task; `NoStatus`, `Skipped` and
+/// `UpstreamFailed` had no try. `Ran` has the only instance of a task that isn't expanded, `Mapped` those of an
+/// expanded one by map index.
 #[derive(Debug, Drop)]
 pub enum TaskReport {
     NoStatus,
@@ -248,8 +249,8 @@ pub enum TaskReport {
     Mapped(Sequence<InstanceReport>),
 }
 
-/// A run: its data interval, whose moments have years of four digits, its state, and what came of each task, in
-/// file order.
+/// A run in a report: its data interval, whose moments have years of four digits, its state, and the reports of its
+/// tasks in file order.
 #[derive(Debug, Drop)]
 pub struct RunReport {
     pub interval: Interval,
@@ -260,7 +261,7 @@ pub struct RunReport {
 }
 
 /// A report: its version, the dag id, the ids of the tasks in file order, and the runs by date. The text of a report
-/// without runs has no ids of tasks, and so has what `report_of` makes of no runs.
+/// without runs tells no ids, and `report_of` then gives it none.
 #[derive(Debug, Drop)]
 pub struct Report {
     pub version: Version,

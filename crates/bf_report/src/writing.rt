@@ -8,8 +8,8 @@ use crate::report::Report;
 use bf_device::{Cause, Write, WriteFault, send};
 use std::alloc::Global;
 
-/// Writes a report. The whole text is made first, so want of memory is known before the first byte goes out. It gives
-/// up where a write fails or takes nothing, and at the 1,001st interruption; the fault tells how much went out.
+/// Writes a report to `out`. Err tells how many bytes went out and why no more did: a write failed or took nothing, or
+/// 1,001 were interrupted, or memory was wanting, which is known before the first byte goes out.
 pub fn write_report<W: Write>(alloc: Global, report: &Report, out: &mut W) -> Result<(), WriteFault>
     ensures ok { OnOk result (W.written out.new
         ≡ sent (W.written out.old) (report_text report.now)) }

@@ -14,7 +14,7 @@ use bf_value::{OutOfMemory, Sequence, Text};
 use bf_xcom::TaskResult;
 use std::alloc::Global;
 
-/// Adds a run, of which all lines were read, at the end of `runs`; nothing for None.
+/// Adds `run`, whose lines were all read, at the end of `runs`; does nothing for None.
 fn add_closed(runs: &mut Sequence<RunReport>, run: Option<OpenRun>) -> Result<(), OutOfMemory>
     ensures { OnOk result (runs.new ≡ runs.old ++ last_run run) }
 {
@@ -24,7 +24,7 @@ fn add_closed(runs: &mut Sequence<RunReport>, run: Option<OpenRun>) -> Result<()
     Ok(())
 }
 
-/// A report as far as it was read. The ids of its tasks come with its first run.
+/// A report as far as it was read. Its first run gives the ids of the tasks, which are the same in all runs.
 #[derive(Drop)]
 pub(crate) struct ReportSoFar {
     pub version: Version,
@@ -36,7 +36,7 @@ pub(crate) struct ReportSoFar {
 }
 
 impl ReportSoFar {
-    /// A report of which only the head was read, with this version and dag id.
+    /// Makes the report of which only the head line was read: it has no run yet.
     pub fn new(alloc: Global, version: Version, dag_id: Text) -> ReportSoFar
         ensures { result ≡ record {
           version = version;
@@ -55,7 +55,7 @@ impl ReportSoFar {
         }
     }
 
-    /// How many runs were read, the one whose tasks are read among them.
+    /// Counts the runs read so far, with the one whose tasks are being read.
     pub fn run_count(&self) -> usize
         ensures { result ≡ run_count_of self.now }
     {
@@ -66,8 +66,8 @@ impl ReportSoFar {
         }
     }
 
-    /// Whether the instance that was read last has its item. True where it needs none: it isn't of an expanded task,
-    /// or the report's version tells no items.
+    /// Answers whether the instance read last has its item. True too where it needs none: its task isn't expanded, the
+    /// report's version has no items, or no instance was read.
     fn has_its_item(&self) -> bool
         ensures { result ≡ has_its_item_at self.now }
     {
@@ -77,7 +77,7 @@ impl ReportSoFar {
         }
     }
 
-    /// Whether the last run has as many tasks as the first; true before the first run.
+    /// Answers whether the last run has as many tasks as the first run; true before the first run.
     fn has_all_tasks(&self) -> bool
         ensures { result ≡ is_whole_in self.now.run self.now.tasks }
     {
@@ -87,16 +87,16 @@ impl ReportSoFar {
         }
     }
 
-    /// Whether the last run has all tasks, each with all that the report's version tells of it; true before the first
-    /// run.
+    /// Answers whether the report may end here, or a new run begin: the last run has all tasks, and its last instance
+    /// the item that it needs. True before the first run.
     pub fn is_whole(&self) -> bool
         ensures { result ≡ is_whole_at self.now }
     {
         self.has_its_item() && self.has_all_tasks()
     }
 
-    /// Whether a run of this data interval may be next: what was read is whole, there is room for a run, and the last
-    /// run starts before this one.
+    /// Answers whether a run of this data interval may come next: the report is whole so far (`is_whole`), it has fewer
+    /// than `MOST_RUNS` runs, and its last run starts before this one.
     fn may_begin(&self, interval: Interval) -> bool
         ensures { result ≡ may_begin_in self.now interval }
     {
@@ -109,7 +109,8 @@ impl ReportSoFar {
         }
     }
 
-    /// Adds a run without its tasks. False, and nothing is added, where it may not be next (`may_begin`).
+    /// Adds a run that has no tasks yet, and answers true; false, with nothing added, where it may not come next
+    /// (`may_begin`).
     pub fn add_run(&mut self, run: RunReport) -> Result<bool, OutOfMemory>
         requires { run.tasks ≡ [] }
         ensures { IfOk result (λ taken.
@@ -122,8 +123,8 @@ impl ReportSoFar {
         Ok(true)
     }
 
-    /// Whether a task with this id may be next in the first run: it is an id, no task of the run has it yet, and
-    /// there is room for a task.
+    /// Answers whether the first run may take a task with this id next: `id` is a valid id, no task of the run has it,
+    /// and the run has fewer than `MOST_TASKS` tasks.
     fn is_new_id(&self, id: &[u8]) -> bool
         ensures { result ≡ is_new_id_in self.now.tasks id.now }
     {
@@ -133,8 +134,9 @@ impl ReportSoFar {
         is_id(id) && self.tasks.len() < MOST_TASKS && !self.tasks.contains(id)
     }
 
-    /// Whether a task with this id may be next in the last run: in the first run any that has no task yet, in each
-    /// other run only the first run's next one. False before the first run.
+    /// Answers whether a task with this id may come next in the last run: in the first run any new id (`is_new_id`), in
+    /// later runs only the id that the first run has at that place. False before the first run, and while an item is
+    /// missing.
     fn is_next_id(&self, id: &[u8]) -> bool
         ensures { result ≡ is_next_id_at self.now id.now }
     {
@@ -150,7 +152,7 @@ impl ReportSoFar {
         self.tasks.has_at(open.task_count(), id)
     }
 
-    /// Adds the id of a task of the first run to `tasks`; does nothing in a later run, whose ids are known.
+    /// Adds the id of a task of the first run to `tasks`. Does nothing in later runs, whose ids are known already.
     fn add_id(&mut self, alloc: Global, id: &[u8]) -> Result<(), OutOfMemory>
         requires { is_next_id_at self.old id.now ≡ true }
         ensures { OnOk result (self.new ≡ record self.old {
@@ -166,8 +168,8 @@ impl ReportSoFar {
         self.tasks.add(alloc, id)
     }
 
-    /// Adds a task without a try, for the reason `untried`. False, and nothing is added, where a task with this id
-    /// may not be next (`is_next_id`).
+    /// Adds a task without a try, for the reason `untried`, and answers true; false, with nothing added, where a task
+    /// with this id may not come next (`is_next_id`).
     fn add_untried_task(
         &mut self,
         alloc: Global,
@@ -187,8 +189,8 @@ impl ReportSoFar {
         Ok(true)
     }
 
-    /// Adds a task by its first instance, which ended as `first`. False, and nothing is added, where a task with this
-    /// id may not be next (`is_next_id`).
+    /// Adds a task with its first instance, which ended as `first`, and answers true; false, with nothing added, where
+    /// a task with this id may not come next (`is_next_id`).
     #[inline(always)]
     fn add_open_task(
         &mut self,
@@ -210,8 +212,8 @@ impl ReportSoFar {
         Ok(true)
     }
 
-    /// Whether an instance with this id and map index may be next: the task read last has this id, is expanded, and
-    /// has `index` instances, the last with its item.
+    /// Answers whether an instance with this id and map index may come next: the task read last has this id, is
+    /// expanded and has exactly `index` instances so far, and no item is missing.
     fn is_next_instance(&self, id: &[u8], index: u32) -> bool
         ensures { result ≡ is_next_instance_at self.now id.now index }
     {
@@ -224,8 +226,8 @@ impl ReportSoFar {
         self.tasks.has_at(open.task_count() - 1, id)
     }
 
-    /// Adds a further instance, which ended as `ended`, to the task that was read last. False, and nothing is added,
-    /// where it may not be next (`is_next_instance`).
+    /// Adds a further instance, which ended as `ended`, to the task read last, and answers true; false, with nothing
+    /// added, where the instance may not come next (`is_next_instance`).
     fn add_instance(
         &mut self,
         alloc: Global,
@@ -245,7 +247,8 @@ impl ReportSoFar {
         Ok(true)
     }
 
-    /// Adds what the line of the task `id` says. False, and nothing is added, where that line may not be next.
+    /// Adds what the line of the task `id` says, and answers true; false, with nothing added, where that line may not
+    /// come next.
     #[tactic(auto, unfolding(crate::specs::Beginning::with_entry))]
     pub fn add_entry(&mut self, alloc: Global, id: &[u8], entry: Entry) -> Result<bool, OutOfMemory>
         ensures { IfOk result (λ taken.
@@ -259,8 +262,7 @@ impl ReportSoFar {
         }
     }
 
-    /// Whether the item or pull `part` may be next, as one of the instance that was read last; false before the first
-    /// run.
+    /// Answers whether this item or pull may come next, for the instance read last; false before the first run.
     fn may_take_part(&self, part: &GivenPart) -> bool
         ensures { result ≡ may_take_part_in self.now.version self.now.run part.now }
     {
@@ -270,8 +272,8 @@ impl ReportSoFar {
         }
     }
 
-    /// Adds an item or a pull of the instance that was read last. False, and nothing is added, where it may not be
-    /// next.
+    /// Adds an item or a pull to the instance read last, and answers true; false, with nothing added, where it may not
+    /// come next (`may_take_part`).
     pub fn add_part(&mut self, alloc: Global, part: GivenPart) -> Result<bool, OutOfMemory>
         ensures { IfOk result (λ taken.
             with_part self.old part ≡ (if taken then Some self.new else None)) }
@@ -285,7 +287,8 @@ impl ReportSoFar {
         Ok(true)
     }
 
-    /// The report, once its last line was read; the run whose tasks were read last is added to its runs.
+    /// Turns what was read into the report, with the run read last as its last run. The report is as whole as what was
+    /// read: nothing is checked here.
     pub fn into_report(self, alloc: Global) -> Result<Report, OutOfMemory>
         ensures { IfOk result (λ report. report ≡ so_far self) }
     {

@@ -23,7 +23,7 @@ pub(crate) enum Untried {
 }
 
 impl Untried {
-    /// What a report has of a task without a try for this reason.
+    /// Gives the report of a task that has no try for this reason.
     pub fn report(self) -> TaskReport
         ensures { result ≡ never_report self }
     {
@@ -35,22 +35,22 @@ impl Untried {
     }
 }
 
-/// A task or an instance of one: without a try, or with the map index, which only instances of expanded tasks have,
-/// and what came of the tries.
+/// What a task's line says: why the task has no try, or an instance's map index, None for a task that isn't expanded,
+/// with how its last try ended.
 #[derive(Drop)]
 pub(crate) enum Entry {
     Never(Untried),
     Tried(Option<u32>, TaskResult),
 }
 
-/// How many tries an instance may have.
+/// The most tries that an instance may have.
 const MOST_TRIES: u32 = MOST_RETRIES + 1;
 
-/// Index, state, tries and value.
+/// The four fields behind a task's id: map index, state, tries and value.
 type Fields<'a> = (&'a [u8], &'a [u8], &'a [u8], &'a [u8]);
 
-/// The map index, the state, the tries and the value in `text`, a task's line after its id; None where there are
-/// fewer than four fields.
+/// Splits `text`, a task's line after its id, into map index, state, tries and value; None where it has fewer than
+/// three spaces. The value may have spaces.
 fn fields_of(text: &[u8]) -> Option<Fields<'_>>
     ensures some { IfSome result (λ f. AreFields text.now f.0.now f.1.now f.2.now f.3.now) }
     ensures none { IfNone result ((index state tries value : List ℕ) →
@@ -62,8 +62,8 @@ fn fields_of(text: &[u8]) -> Option<Fields<'_>>
     Some((index, state, tries, value))
 }
 
-/// The map index that a field spells: `Some(None)` for `-1`, the index of a task that isn't expanded. None for any
-/// other text, and from `MOST_ITEMS` on.
+/// Reads a map index: `Some(None)` for `-1`, which stands for a task that isn't expanded. None where the text is no
+/// plain decimal number below `MOST_ITEMS`.
 fn index_in(text: &[u8]) -> Option<Option<u32>>
     ensures some { IfSome result (Spells IsIndex index_text text.now) }
     ensures every { Finds (Spells IsIndex index_text text.now) result }
@@ -78,7 +78,7 @@ fn index_in(text: &[u8]) -> Option<Option<u32>>
     Some(Some(index))
 }
 
-/// The state that a word says of a task without a try; None for any other word.
+/// Reads the state word of a task without a try: `no_status`, `skipped` or `upstream_failed`; None for any other word.
 fn untried_state_in(state: &[u8]) -> Option<Untried>
     ensures some { IfSome result (λ u. state.now ≡ never_word u) }
     ensures every { Finds (λ u. state.now ≡ never_word u) result }
@@ -94,7 +94,8 @@ fn untried_state_in(state: &[u8]) -> Option<Untried>
     }
 }
 
-/// The state of a task without a try by its four fields, `-1`, the state, `0` and `-`; None for any others.
+/// Reads why a task has no try from the four fields of its line, which must be `-1`, the state word, `0` and `-`; None
+/// for any others.
 fn untried_in(index: &[u8], state: &[u8], tries: &[u8], value: &[u8]) -> Option<Untried>
     ensures some { IfSome result (SaysNever index.now state.now tries.now value.now) }
     ensures every { Finds (SaysNever index.now state.now tries.now value.now) result }
@@ -105,7 +106,7 @@ fn untried_in(index: &[u8], state: &[u8], tries: &[u8], value: &[u8]) -> Option<
     None
 }
 
-/// The number of the last try that a field spells, from 1 to `MOST_TRIES`; None for any other text.
+/// Reads how many tries an instance had, from 1 to `MOST_TRIES`; None for any other text.
 fn tries_in(text: &[u8]) -> Option<u32>
     ensures some { IfSome result (Spells IsTries decimal text.now) }
     ensures every { Finds (Spells IsTries decimal text.now) result }
@@ -117,8 +118,8 @@ fn tries_in(text: &[u8]) -> Option<u32>
     Some(tries)
 }
 
-/// How an instance with a try ended, by its last three fields; None where they are no state, number of tries and
-/// value, or don't fit.
+/// Reads how an instance ended from the last three fields of its line; None where one of them is malformed, or the
+/// state doesn't go with the value.
 fn result_in(
     alloc: Global,
     state: &[u8],
@@ -137,7 +138,7 @@ fn result_in(
     }
 }
 
-/// What `text`, a task's line after its id, says of the task; None where it isn't written as reports write it.
+/// Reads `text`, a task's line after its id; None where it isn't spelled as reports spell it.
 pub(crate) fn entry_in(alloc: Global, text: &[u8]) -> Result<Option<Entry>, OutOfMemory>
     ensures some { IfOk result (λ o. IfSome o (Spells IsEntry entry_text text.now)) }
     ensures every { IfOk result (Finds (Spells IsEntry entry_text text.now)) }

@@ -6,12 +6,12 @@ use bf_value::OutOfMemory;
 use std::error::Error;
 use std::fmt;
 
-/// Why there is no report. Lines are counted from 1.
+/// Why a report could not be read. Lines are counted from 1.
 #[derive(Clone, Copy, Debug, PartialEq, Eq)]
 pub enum ReportFault {
-    /// The line may not stand in its place.
+    /// This line isn't one that may stand here.
     BadLine(u64),
-    /// The line has more bytes than a line may have.
+    /// This line has more bytes than a line may have.
     TooLong(u64),
     /// The bytes end before the line feed of the end line.
     Truncated,
@@ -21,7 +21,8 @@ pub enum ReportFault {
 }
 
 impl ReportFault {
-    /// The number of the refusal (docs/FORMATS.md), 30 to 32; None for a fault of the device and for want of memory.
+    /// Gives the number of the refusal in docs/FORMATS.md, 30 to 32; None for `Io` and `OutOfMemory`, which refuse no
+    /// report.
     pub fn refusal_number(self) -> Option<u32>
         ensures { result ≡ refusal_number_of self }
     {
@@ -59,12 +60,13 @@ impl From<OutOfMemory> for ReportFault {
 
     ghost from_gives = { λ _ e. e ≡ OutOfMemory };
 
+    /// Gives `OutOfMemory`.
     fn from(_e: OutOfMemory) -> ReportFault {
         ReportFault::OutOfMemory
     }
 }
 
-/// The device failed, or was interrupted too often.
+/// The device failed, or interrupted reads more than `MOST_INTERRUPTIONS` times.
 #[derive(Clone, Copy, Debug, PartialEq, Eq)]
 pub(crate) struct Halted;
 
@@ -73,6 +75,7 @@ impl From<Halted> for ReportFault {
 
     ghost from_gives = { λ _ e. e ≡ Io };
 
+    /// Gives `Io`.
     fn from(_e: Halted) -> ReportFault {
         ReportFault::Io
     }

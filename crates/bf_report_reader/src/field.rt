@@ -5,7 +5,7 @@ ghost use Rattle.bf_report_reader.specs.inner.Reads.{IsWord};
 use itoa::Buffer;
 use memchr::memchr;
 
-/// The index of the first space of a text; None where there is none.
+/// Finds the first space of a text, by its index; None where there is none.
 #[tactic(auto, using(crate::proofs::Finding::first_is))]
 fn space_in(text: &[u8]) -> Option<usize>
     ensures { result ≡ position (λ b. b == 32) text.now }
@@ -13,7 +13,7 @@ fn space_in(text: &[u8]) -> Option<usize>
     memchr(b' ', text)
 }
 
-/// What is before the first space of a text, and what after it; None where there is no space.
+/// Splits a text at its first space into what stands before and after it; None where there is no space.
 pub(crate) fn split_field(text: &[u8]) -> Option<(&[u8], &[u8])>
     ensures some { IfSome result (λ p. text.now ≡ p.0.now ++ 32 ∷ p.1.now) }
     ensures word { IfSome result (λ p. IsWord p.0.now) }
@@ -23,7 +23,7 @@ pub(crate) fn split_field(text: &[u8]) -> Option<(&[u8], &[u8])>
     Some((&text[..at], &text[at + 1..]))
 }
 
-/// The number of an ASCII digit; None for any other byte.
+/// Reads an ASCII digit as its number; None for any other byte.
 fn digit_in(digit: u8) -> Option<u32>
     ensures some { IfSome result (λ n. digit ∷ [] ≡ decimal n) }
     ensures every { (n : ℕ) → n < 2 ^ 32 → digit ∷ [] ≡ decimal n → result ≡ Some n }
@@ -35,7 +35,7 @@ fn digit_in(digit: u8) -> Option<u32>
     }
 }
 
-/// The number that a text spells in decimal, without leading zeros and within 32 bits; None for any other text.
+/// Reads a decimal number without leading zeros that fits 32 bits; None for any other text.
 pub(crate) fn number_in(text: &[u8]) -> Option<u32>
     ensures some { IfSome result (λ n. text.now ≡ decimal n) }
     ensures every { (n : ℕ) → n < 2 ^ 32 → text.now ≡ decimal n → result ≡ Some n }

@@ -8,13 +8,13 @@ use bf_value::OutOfMemory;
 use memchr::memchr;
 use std::alloc::Global;
 
-/// How many bytes a line may have, its line feed not counted.
+/// The most bytes that a line may have, without its line feed; the line of a pull may have more.
 pub(crate) const LONGEST_LINE: usize = 66_000;
 
-/// How many bytes one read may give.
+/// The most bytes that one read gives.
 const ROOM: usize = 8_192;
 
-/// The index of the first line feed; None where there is none.
+/// Finds the first line feed, by its index; None where there is none.
 #[tactic(auto, using(crate::proofs::Finding::first_is))]
 pub(crate) fn line_feed_in(bytes: &[u8]) -> Option<usize>
     ensures { result ≡ position (λ b. b == 10) bytes.now }
@@ -22,8 +22,8 @@ pub(crate) fn line_feed_in(bytes: &[u8]) -> Option<usize>
     memchr(b'\n', bytes)
 }
 
-/// The bytes that were read from a device and not used yet, the line before them that was taken off whole, and how
-/// often the device was interrupted.
+/// A buffer over a device: the bytes read and not taken yet (`start` to `end`), the line taken last (`line_start` to
+/// `line_end`), and how often reads were interrupted.
 #[derive(Drop)]
 pub(crate) struct ReadBuffer {
     pub room: Vec<u8>,
@@ -43,7 +43,7 @@ pub(crate) struct ReadBuffer {
 impl ReadBuffer {
     ghost use Rattle.bf_report_reader.specs.Held.{held_bytes, held_line, ahead, Tallies, Breaks, TakesLine, KeepsAll};
 
-    /// A buffer that holds nothing yet, for a device of which no interruption was counted.
+    /// Makes an empty buffer, which has counted no interruption.
     pub fn new(alloc: Global) -> Result<ReadBuffer, OutOfMemory>
         ensures { IfOk result (λ held. (held_bytes held ≡ []) × (held.interruptions ≡ 0)) }
     {
@@ -57,8 +57,9 @@ impl ReadBuffer {
         })
     }
 
-    /// Reads once more from the device into the empty buffer, and gives whether bytes came: none is the end. `Halted`
-    /// where a read fails, and at the 1,001st interruption over all calls.
+    /// Reads once from the device into the empty buffer, and answers whether bytes came; false at the device's end.
+    /// Repeats interrupted reads. `Halted` where a read fails, or at the 1,001st interruption since the buffer was
+    /// made.
     fn fill<R: Read>(&mut self, device: &mut R) -> Result<bool, Halted>
         requires { self.old.start ≡ self.old.end }
         ensures bytes { OnOk result
@@ -91,7 +92,8 @@ impl ReadBuffer {
         }
     }
 
-    /// Whether more bytes come. Reads from the device only where the buffer is empty; `Halted` where that fails.
+    /// Answers whether bytes are left to take, and reads from the device first where the buffer is empty. False at the
+    /// device's end. `Halted` where a read fails, or at the 1,001st interruption since the buffer was made.
     pub fn has_more<R: Read>(&mut self, device: &mut R) -> Result<bool, Halted>
         ensures same { OnOk result (Consumes (ahead self.old (R.left device.old))
             (ahead self.new (R.left device.new)) []) }
@@ -111,14 +113,14 @@ impl ReadBuffer {
         self.fill(device)
     }
 
-    /// The bytes that were read and not taken yet.
+    /// Gives the bytes that were read and not taken yet.
     pub fn bytes(&self) -> &[u8]
         ensures { result.now ≡ held_bytes self.now }
     {
         &self.room[self.start..self.end]
     }
 
-    /// Drops the first `count` of the bytes in the buffer.
+    /// Drops the first `count` bytes of those not taken yet.
     pub fn skip(&mut self, count: usize)
         requires { count ≤ length (held_bytes self.old) }
         ensures bytes { held_bytes self.new ≡ drop count (held_bytes self.old) }
@@ -127,8 +129,8 @@ impl ReadBuffer {
         self.start += count;
     }
 
-    /// Takes the next line off, with its line feed, and gives true; false, and nothing is taken, where the buffer
-    /// doesn't have all of it, or it is longer than `LONGEST_LINE`.
+    /// Takes the next line with its line feed, which `line` then gives, and answers true; false, with nothing taken,
+    /// where the buffer doesn't hold all of the line, or the line is longer than `LONGEST_LINE`.
     pub fn take_line(&mut self) -> bool
         ensures { MatchBool result (TakesLine self.old self.new) (KeepsAll self.old self.new) }
     {
@@ -143,7 +145,7 @@ impl ReadBuffer {
         }
     }
 
-    /// The line that was taken off last, without its line feed.
+    /// Gives the line taken last, without its line feed; empty before the first.
     pub fn line(&self) -> &[u8]
         ensures { result.now ≡ held_line self.now }
     {

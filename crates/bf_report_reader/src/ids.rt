@@ -9,7 +9,7 @@ use indexmap::IndexSet;
 use std::alloc::Global;
 use std::marker::Model;
 
-/// The ids of tasks, in order. Contracts see the list of them.
+/// The ids of a report's tasks, in file order and each once. Contracts see the list of them.
 #[derive(Drop)]
 pub(crate) struct TaskIds {
     set: IndexSet<String>,
@@ -41,14 +41,14 @@ impl TaskIds {
         self.set.len()
     }
 
-    /// Whether an id is in the list.
+    /// Answers whether a task has this id.
     pub fn contains(&self, id: &str) -> bool
         ensures { result ≡ list_any (λ task. bytes_eq task id.now) self.now }
     {
         self.set.contains(id)
     }
 
-    /// Whether the task of this number, from 0, has this id; false where there is no such task.
+    /// Answers whether the task at this place, from 0, has this id; false where there is no such place.
     pub fn has_at(&self, number: usize, id: &[u8]) -> bool
         ensures { result ≡ is_text (slice_get self.now number) id.now }
     {
@@ -67,7 +67,7 @@ impl TaskIds {
         Ok(())
     }
 
-    /// The ids as texts, in order.
+    /// Turns the ids into texts, in file order.
     pub fn into_texts(self, alloc: Global) -> Result<Sequence<Text>, OutOfMemory>
         ensures { IfOk result (λ texts. texts ≡ self) }
     {

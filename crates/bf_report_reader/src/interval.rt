@@ -11,13 +11,14 @@ use bf_moment::moment_in;
 use bf_xcom::RunState;
 use jiff::Timestamp;
 
-/// The last moment of a report: the end of the year 2208, where the last data interval ends at the latest.
+/// The last moment that a report may name, the last second of 2208, in nanoseconds since 1970; no data interval ends
+/// later.
 const LAST_END_NANOSECOND: i128 = 7_542_115_199_000_000_000;
 
-/// How many bytes a moment has.
+/// How many bytes a moment such as `2024-01-31T06:05:09Z` has.
 const MOMENT_LEN: usize = 20;
 
-/// The moment that a text spells as `2024-01-31T06:05:09Z`, from 1970 to the end of 2208; None for any other text.
+/// Reads a UTC moment spelled as `2024-01-31T06:05:09Z`, from 1970 to the end of 2208; None for any other text.
 fn report_moment_in(text: &[u8]) -> Option<Timestamp>
     ensures some { IfSome result (Spells IsReportMoment spelled_moment text.now) }
     ensures every { Finds (Spells IsReportMoment spelled_moment text.now) result }
@@ -35,7 +36,7 @@ fn report_moment_in(text: &[u8]) -> Option<Timestamp>
     Some(moment)
 }
 
-/// The state of a run that a word says; None for any other word.
+/// Reads the state of a run, `success` or `failed`; None for any other word.
 fn run_state_in(text: &[u8]) -> Option<RunState>
     ensures some { IfSome result (λ state. text.now ≡ run_state_word_of state) }
     ensures every { Finds (λ state. text.now ≡ run_state_word_of state) result }
@@ -49,8 +50,8 @@ fn run_state_in(text: &[u8]) -> Option<RunState>
     }
 }
 
-/// The data interval and the state that a run's line says after `@run `; None where they aren't written as reports
-/// write them, the start is after the end, or not in the years of runs.
+/// Reads the data interval and the state of a run from what follows `@run ` on its line; None where they are malformed,
+/// the start is after the end, or the start isn't in the years of runs.
 pub(crate) fn run_in(text: &[u8]) -> Option<(Interval, RunState)>
     ensures some { IfSome result (Spells IsRunWords run_words text.now) }
     ensures every { Finds (Spells IsRunWords run_words text.now) result }

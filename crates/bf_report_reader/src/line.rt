@@ -10,21 +10,21 @@ use crate::held::{LONGEST_LINE, ReadBuffer, line_feed_in};
 use bf_device::Read;
 use bf_value::OutOfMemory;
 
-/// How many bytes the line of a pull may have.
+/// The most bytes that the line of a pull may have, without its line feed.
 const LONGEST_PULL_LINE: usize = 68_000_000;
 
-/// What follows the bytes of a line.
+/// What ended a line.
 #[derive(Clone, Copy, Debug, PartialEq, Eq)]
 pub(crate) enum LineEnd {
     LineFeed,
-    /// The device gives no more.
+    /// The device's end.
     Nothing,
-    /// More bytes than a line may have.
+    /// The limit of its length.
     TooMuch,
 }
 
-/// How many bytes a line may have that begins with `line`, its line feed not counted. The limit of a pull's line, the
-/// greater one, holds from its `@pull ` on.
+/// Gives the most bytes, without the line feed, that a line beginning with `line` may have: a line that begins with
+/// `@pull ` may have more than others.
 fn limit_of(line: &[u8]) -> usize
     ensures { result ≡ longest_line line.now }
 {
@@ -35,8 +35,8 @@ fn limit_of(line: &[u8]) -> usize
     }
 }
 
-/// Moves bytes from the buffer to `line`, up to the first that is too many for it, or up to its line feed, which is
-/// dropped. True where the line feed was there.
+/// Moves bytes from the buffer to the end of `line`, up to one byte more than the line may have, and answers whether
+/// its line feed came, which is dropped.
 fn move_piece(held: &mut ReadBuffer, line: &mut Vec<u8>) -> Result<bool, OutOfMemory>
     requires { length line.old.items ≤ longest_line line.old.items }
     ensures piece { IfOk result (λ ended. MovesPiece ended
@@ -61,8 +61,8 @@ fn move_piece(held: &mut ReadBuffer, line: &mut Vec<u8>) -> Result<bool, OutOfMe
     }
 }
 
-/// Reads the next line off the device into `line`, without its line feed, and gives how it ended; `Io` where a read
-/// fails.
+/// Reads the next line off the device into `line`, without its line feed, and gives what ended it. `Io` where a read
+/// fails or too many are interrupted, `OutOfMemory` at want of memory.
 pub(crate) fn next_line<R: Read>(
     held: &mut ReadBuffer,
     device: &mut R,

@@ -18,7 +18,7 @@ use bf_xcom::TaskResult;
 use std::alloc::Global;
 use std::marker::Model;
 
-/// How many pulls a report of this version may tell of an instance: none in version 1.
+/// Gives the most pulls that a report of this version may have for an instance: none in version 1.
 fn most_pulls(version: Version) -> usize
     ensures { result ≡ most_told version }
 {
@@ -28,8 +28,8 @@ fn most_pulls(version: Version) -> usize
     }
 }
 
-/// Whether the last instance of a task has its item. True where it needs none: the task isn't expanded, or the
-/// version tells no items.
+/// Answers whether the last instance of a task has its item. True too where it needs none: the task isn't expanded or
+/// has no instance, or the version has no items.
 fn has_its_item(version: Version, task: &TaskReport) -> bool
     ensures { result ≡ is_given_task version (open_by task.now) }
 {
@@ -42,15 +42,15 @@ fn has_its_item(version: Version, task: &TaskReport) -> bool
     }
 }
 
-/// Whether an instance has a pull from the task of this id.
+/// Answers whether an instance has a pull from the task with this id.
 fn has_pull(instance: &InstanceReport, id: &str) -> bool
     ensures { result ≡ list_any (λ pull. bytes_eq pull.task id.now) instance.now.pulls }
 {
     instance.pulls().iter().any(|pull| pull.task.as_str() == id)
 }
 
-/// Whether an item or a pull of an instance may be next: an item only where the instance wants one (not `is_given`),
-/// a pull only after that, from another task than the pulls before, and no more than the version has.
+/// Answers whether an instance may take this item or pull next. An item only where one is missing (`is_given` is
+/// false); a pull only where none is, the version allows one more, and no pull is from that task yet.
 fn instance_may_take(
     version: Version,
     is_given: bool,
@@ -69,7 +69,7 @@ fn instance_may_take(
     }
 }
 
-/// Whether an item or a pull may be next, as one of the last instance of this task; false where it has no instance.
+/// Answers whether the last instance of a task may take this item or pull next; false where it has no instance.
 fn task_may_take(version: Version, task: &TaskReport, part: &GivenPart) -> bool
     ensures { result ≡ takes_task version (open_by task.now) part.now }
 {
@@ -84,7 +84,8 @@ fn task_may_take(version: Version, task: &TaskReport, part: &GivenPart) -> bool
     }
 }
 
-/// Whether an instance with this map index is the next of an expanded task, which has as many; false for other tasks.
+/// Answers whether `index` is the next map index of an expanded task: it has that many instances, at least one. False
+/// for any other task.
 fn is_next_index(task: &TaskReport, index: u32) -> bool
     ensures { result ≡ is_further_task (open_by task.now) index }
 {
@@ -94,7 +95,7 @@ fn is_next_index(task: &TaskReport, index: u32) -> bool
     }
 }
 
-/// Adds an item, in place of any before, or a pull to an instance.
+/// Adds an item, which replaces the one before, or a pull, which goes behind the others, to an instance.
 fn add_part_to_instance(
     alloc: Global,
     instance: &mut InstanceReport,
@@ -108,8 +109,8 @@ fn add_part_to_instance(
     }
 }
 
-/// The pull, to be added to the last of these instances. Where the instance before it pulled an equal value, it
-/// shares that one's memory, which contracts don't see.
+/// Gives the same pull, meant for the last of these instances. Where the instance before pulled an equal value at that
+/// place, the pull shares its memory, which contracts don't see.
 fn share_known_value(instances: &[InstanceReport], pull: Pull) -> Result<Pull, OutOfMemory>
     ensures { IfOk result (λ same. same ≡ pull) }
 {
@@ -125,8 +126,8 @@ fn share_known_value(instances: &[InstanceReport], pull: Pull) -> Result<Pull, O
     }
 }
 
-/// The item or pull, to be added to the last of these instances; a pull's value shares memory with an equal one of
-/// the instance before it, which contracts don't see.
+/// Gives the same item or pull, meant for the last of these instances. A pull shares memory with an equal one of the
+/// instance before, which contracts don't see.
 fn share_known_part(instances: &[InstanceReport], part: GivenPart) -> Result<GivenPart, OutOfMemory>
     ensures { IfOk result (λ same. same ≡ part) }
 {
@@ -136,7 +137,7 @@ fn share_known_part(instances: &[InstanceReport], part: GivenPart) -> Result<Giv
     }
 }
 
-/// Adds an item or a pull to the last of these instances; does nothing where there is none.
+/// Adds an item or a pull to the last of these instances; does nothing where there are none.
 fn add_part_to_last_instance(
     alloc: Global,
     instances: &mut Sequence<InstanceReport>,
@@ -196,7 +197,7 @@ fn add_instance_to_task(
     }
 }
 
-/// Adds a further instance, which ended as `ended`, to the last of these tasks, if it is expanded; else does nothing.
+/// Adds a further instance, which ended as `ended`, to the last of these tasks if that is expanded; else does nothing.
 fn add_instance_to_last_task(
     alloc: Global,
     tasks: &mut Sequence<TaskReport>,
@@ -218,7 +219,7 @@ fn add_part_to_run(alloc: Global, run: &mut RunReport, part: GivenPart) -> Resul
     add_part_to_last_task(alloc, &mut run.tasks, part)
 }
 
-/// Adds a further instance, which ended as `ended`, to the last task of a run, if it is expanded; else does nothing.
+/// Adds a further instance, which ended as `ended`, to the last task of a run if that is expanded; else does nothing.
 fn add_instance_to_run(
     alloc: Global,
     run: &mut RunReport,
@@ -239,7 +240,8 @@ fn push_task(run: &mut RunReport, task: TaskReport) -> Result<(), OutOfMemory>
     Ok(())
 }
 
-/// The report of a task of which only the first instance was read, which ended as `first`.
+/// Makes the report of a task with its first instance, which ended as `first`; an expanded one may get further
+/// instances.
 #[inline(always)]
 fn open_task_of(
     alloc: Global,
@@ -257,8 +259,8 @@ fn open_task_of(
     Ok(TaskReport::Mapped(instances))
 }
 
-/// The run whose tasks are read. A task that ran is put behind the others at once: most have one line. Contracts see
-/// it apart from the others while it stands last, since it may have more.
+/// The run whose tasks are being read. Contracts see its last task apart from the others where that has an instance,
+/// since further lines may belong to it.
 #[derive(Drop)]
 pub(crate) struct OpenRun {
     run: RunReport,
@@ -280,7 +282,7 @@ impl Model for OpenRun {
 }
 
 impl OpenRun {
-    /// The run of which only its own line was read.
+    /// Makes the run of which only the `@run` line was read.
     pub fn new(run: RunReport) -> OpenRun
         requires { run.tasks ≡ [] }
         ensures { result ≡ record { run = run; task = None } }
@@ -288,29 +290,29 @@ impl OpenRun {
         OpenRun { run }
     }
 
-    /// Whether the run starts before a data interval.
+    /// Answers whether this run's data interval starts before that one.
     pub fn starts_before(&self, interval: Interval) -> bool
         ensures { result ≡ int_lt self.now.run.interval.start.nanosecond interval.start.nanosecond }
     {
         self.run.interval.start < interval.start
     }
 
-    /// How many tasks of the run were read.
+    /// Counts the tasks read so far.
     pub fn task_count(&self) -> usize
         ensures { result ≡ task_count_of self.now }
     {
         self.run.tasks.len()
     }
 
-    /// Adds a task without a try, for the reason `untried`, at the end.
+    /// Adds a task without a try, for the reason `untried`, at the end of the run.
     pub fn add_untried_task(&mut self, untried: Untried) -> Result<(), OutOfMemory>
         ensures { OnOk result (put_task (Some self.old) (never_report untried) ≡ Some self.new) }
     {
         push_task(&mut self.run, untried.report())
     }
 
-    /// Adds a task by its first instance, which ended as `first`, at the end; an expanded one may have further
-    /// instances.
+    /// Adds a task with its first instance, which ended as `first`, at the end of the run; an expanded one may get
+    /// further instances.
     #[inline(always)]
     pub fn add_open_task(
         &mut self,
@@ -324,7 +326,7 @@ impl OpenRun {
         push_task(&mut self.run, open_task_of(alloc, is_expanded, first)?)
     }
 
-    /// The task that was read last; None before the first.
+    /// Gives the task read last; None before the first.
     fn last(&self) -> Option<&TaskReport>
         ensures some { IfSome result (λ task. open_by task.now ≡ self.now.task) }
         ensures none { IfNone result (self.now.task ≡ None) }
@@ -332,7 +334,7 @@ impl OpenRun {
         self.run.tasks.as_slice().last()
     }
 
-    /// Whether the instance that was read last has its item; true where it needs none, or no task was read.
+    /// Answers whether the instance read last has its item. True too where it needs none, or no task was read yet.
     pub fn has_its_item(&self, version: Version) -> bool
         ensures { result ≡ is_given_task version self.now.task }
     {
@@ -342,7 +344,8 @@ impl OpenRun {
         }
     }
 
-    /// Whether an instance with this map index is the next of the task read last; false where that isn't expanded.
+    /// Answers whether an instance with this map index may come next for the task read last; false where that isn't
+    /// expanded.
     pub fn is_next_instance(&self, index: u32) -> bool
         ensures { result ≡ is_further_task self.now.task index }
     {
@@ -352,7 +355,7 @@ impl OpenRun {
         }
     }
 
-    /// Adds a further instance, which ended as `ended`, to the task that was read last, which is expanded.
+    /// Adds a further instance, which ended as `ended`, to the task read last, which must be expanded.
     pub fn add_instance(&mut self, alloc: Global, ended: TaskResult) -> Result<(), OutOfMemory>
         requires { (index : ℕ) × (is_further_task self.old.task index ≡ true) }
         ensures { OnOk result (put_further (Some self.old) ended ≡ Some self.new) }
@@ -360,7 +363,7 @@ impl OpenRun {
         add_instance_to_run(alloc, &mut self.run, ended)
     }
 
-    /// Whether an item or a pull may be next, as one of the instance read last; false where there is none.
+    /// Answers whether the instance read last may take this item or pull next; false where there is none.
     pub fn may_take_part(&self, version: Version, part: &GivenPart) -> bool
         ensures { result ≡ takes_task version self.now.task part.now }
     {
@@ -370,14 +373,14 @@ impl OpenRun {
         }
     }
 
-    /// Adds an item or a pull to the instance that was read last; does nothing where there is none.
+    /// Adds an item or a pull to the instance read last; does nothing where there is none.
     pub fn add_part(&mut self, alloc: Global, part: GivenPart) -> Result<(), OutOfMemory>
         ensures { OnOk result (put_part (Some self.old) part ≡ Some self.new) }
     {
         add_part_to_run(alloc, &mut self.run, part)
     }
 
-    /// The run, once it has no more lines.
+    /// Gives the run, after its last line.
     pub fn into_run(self) -> RunReport
         ensures { result ≡ closed self }
     {

@@ -12,25 +12,26 @@ use bf_plan::is_id;
 use bf_report::Pull;
 use bf_try::{LONGEST_VALUE, MOST_ITEMS};
 use bf_value::{DEEPEST, OutOfMemory, Text, Xval, read_text};
-use bf_xcom::Pulled;
+use bf_xcom::SharedValue;
 use std::alloc::Global;
 
-/// A part of what the tries of an instance were given, which has a line of its own.
+/// An item or a pull that the tries of an instance were given. Each has a line of its own.
 #[derive(Drop)]
 pub(crate) enum GivenPart {
     Item(Xval),
     Pull(Pull),
 }
 
-/// How deep the lists of a pulled value may nest: it may be the list of what an expanded task's instances pushed.
+/// How deep a pulled value may nest: one level deeper than a pushed one, since a pull from an expanded task gives the
+/// list of what its instances pushed.
 const DEEPEST_PULLED: usize = DEEPEST + 1;
 
-/// How many bytes the text of a pulled value may have: that of a list of pushed values, each with a comma or a
-/// bracket behind it, and the bracket before them.
+/// The most bytes that a pulled value's JSON may have: a list of `MOST_ITEMS` pushed values of the greatest length,
+/// each with a comma or bracket behind it, and the opening bracket.
 const LONGEST_PULLED: usize = MOST_ITEMS * (LONGEST_VALUE + 1) + 1;
 
-/// The value whose compact JSON a text is, of at most `longest` bytes and with lists at most `deepest` deep; None for
-/// any other text.
+/// Reads a value from its compact JSON, of at most `longest` bytes and nested at most `deepest` deep; None for any
+/// other text.
 fn bounded_value_in(
     alloc: Global,
     text: &[u8],
@@ -53,7 +54,8 @@ fn bounded_value_in(
     }
 }
 
-/// The item that a line says after `@item `, as compact JSON; None for any other text.
+/// Reads an item from what follows `@item ` on its line; None where that is no compact JSON within the limits of a
+/// pushed value.
 pub(crate) fn item_in(alloc: Global, text: &[u8]) -> Result<Option<Xval>, OutOfMemory>
     ensures some { IfOk result (λ o. IfSome o (Spells IsToldItem json_of text.now)) }
     ensures every { IfOk result (Finds (Spells IsToldItem json_of text.now)) }
@@ -61,7 +63,8 @@ pub(crate) fn item_in(alloc: Global, text: &[u8]) -> Result<Option<Xval>, OutOfM
     bounded_value_in(alloc, text, DEEPEST, LONGEST_VALUE)
 }
 
-/// The value that a field says was pulled: `Some(None)` for `-`, nothing. None for `null`, and for any other text.
+/// Reads a pulled value: `Some(None)` for `-`, which says that nothing was pushed. None for `null`, and for any text
+/// that isn't compact JSON within the limits of a pulled value.
 fn pulled_in(alloc: Global, text: &[u8]) -> Result<Option<Option<Xval>>, OutOfMemory>
     ensures some { IfOk result (λ o. IfSome o (Spells IsToldPulled pulled_word text.now)) }
     ensures every { IfOk result (Finds (Spells IsToldPulled pulled_word text.now)) }
@@ -75,7 +78,8 @@ fn pulled_in(alloc: Global, text: &[u8]) -> Result<Option<Option<Xval>>, OutOfMe
     }
 }
 
-/// The pull that a line says after `@pull `, a task's id and a value or `-`; None for any other text.
+/// Reads a pull from what follows `@pull ` on its line: a task's id, and its value or `-`. None where either is
+/// malformed.
 pub(crate) fn pull_in(alloc: Global, text: &[u8]) -> Result<Option<Pull>, OutOfMemory>
     ensures some { IfOk result (λ o. IfSome o (Spells IsToldPull pull_words text.now)) }
     ensures every { IfOk result (Finds (Spells IsToldPull pull_words text.now)) }
@@ -92,7 +96,7 @@ pub(crate) fn pull_in(alloc: Global, text: &[u8]) -> Result<Option<Pull>, OutOfM
     match pulled_in(alloc, value)? {
         Some(value) => Ok(Some(Pull {
             task: Text::copy_of(alloc, id)?,
-            value: Pulled::new(alloc, value)?,
+            value: SharedValue::new(alloc, value)?,
         })),
         None => Ok(None),
     }

@@ -29,7 +29,7 @@ use bf_report::{Report, RunReport, Version};
 use bf_value::{OutOfMemory, Sequence, Text};
 use std::alloc::Global;
 
-/// The bytes of a device, and the line that was read last: lent where it is held whole, and else put together.
+/// A device's lines, counted from 1; the one read last lies in `held` or, where that lacks part of it, in `pieces`.
 #[derive(Drop)]
 struct Lines {
     held: ReadBuffer,
@@ -51,7 +51,7 @@ impl Lines {
         })
     }
 
-    /// Reads the next line off the device; `TooLong` for a longer one than may be, `Truncated` without a line feed.
+    /// Reads the next line: `TooLong` past its limit, `Truncated` without its line feed, `Io` where the device fails.
     fn read<R: Read>(&mut self, device: &mut R) -> Result<(), ReportFault>
         requires { self.old.number < 300_000_000_000 }
         ensures line { OnOk result (Consumes (ahead self.old.held (R.left device.old))
@@ -94,7 +94,7 @@ impl Lines {
     }
 }
 
-/// What is in a text after this word and a space; None where the text begins otherwise.
+/// Gives what follows `word` and a space in a text; None where the text doesn't begin with them.
 fn after_word<'a>(text: &'a [u8], word: &[u8]) -> Option<&'a [u8]>
     ensures some { IfSome result (λ rest. text.now ≡ word.now ++ 32 ∷ rest.now) }
     ensures none { IfNone result (IsWord word.now →
@@ -104,7 +104,7 @@ fn after_word<'a>(text: &'a [u8], word: &[u8]) -> Option<&'a [u8]>
     if first == word { Some(rest) } else { None }
 }
 
-/// The version that the word `1` or `2` of the first line says; None for any other word.
+/// Reads a report's version, `1` or `2`; None for any other word.
 fn version_in(word: &[u8]) -> Option<Version>
     ensures some { IfSome result (λ version. word.now ≡ version_word_of version) }
     ensures every { Finds (λ version. word.now ≡ version_word_of version) result }
@@ -116,7 +116,7 @@ fn version_in(word: &[u8]) -> Option<Version>
     }
 }
 
-/// The version and the dag id that the first line `@backfill VERSION ID` says; None for any other line.
+/// Reads the version and the dag id off the head line, `@backfill VERSION ID`; None for any other line.
 fn head_in(alloc: Global, line: &[u8]) -> Result<Option<(Version, Text)>, OutOfMemory>
     ensures some { IfOk result (λ o. IfSome o (SaysHead line.now)) }
     ensures every { IfOk result (Finds (SaysHead line.now)) }
@@ -136,23 +136,23 @@ fn head_in(alloc: Global, line: &[u8]) -> Result<Option<(Version, Text)>, OutOfM
     }
 }
 
-/// What a line behind the head is.
+/// What became of a line after the head.
 #[derive(Clone, Copy, Debug, PartialEq, Eq)]
 enum Step {
     Taken,
     End,
-    /// It may not stand in its place.
+    /// It may not stand here, and nothing was added.
     Refused,
 }
 
-/// `Taken` for a line that was added to the report, and else `Refused`.
+/// Gives `Taken` for true and `Refused` for false.
 fn taken_or_refused(taken: bool) -> Step
     ensures { result ≡ (if taken then Step.Taken else Step.Refused) }
 {
     if taken { Step::Taken } else { Step::Refused }
 }
 
-/// Adds the run that a line says after `@run `; `Refused` where it says none, or the run may not be next.
+/// Adds a run from what follows `@run ` on its line; `Refused` where that is malformed, or the run may not come next.
 fn read_run(alloc: Global, beginning: &mut ReportSoFar, text: &[u8]) -> Result<Step, OutOfMemory>
     requires counted { IsCounted beginning.old }
     requires small { IsSmall beginning.old }
@@ -171,7 +171,7 @@ fn read_run(alloc: Global, beginning: &mut ReportSoFar, text: &[u8]) -> Result<S
     Ok(taken_or_refused(beginning.add_run(run)?))
 }
 
-/// Adds what the line of the task `id` says in `text`, after the id; `Refused` where that may not be next.
+/// Adds what `text`, behind the id on the line of the task `id`, says; `Refused` where that may not come next.
 fn read_task(
     alloc: Global,
     beginning: &mut ReportSoFar,
@@ -189,7 +189,7 @@ fn read_task(
     }
 }
 
-/// Adds the item that a line says after `@item `; `Refused` where it says none, or the item may not be next.
+/// Adds an item from what follows `@item ` on its line; `Refused` where that is malformed, or may not come next.
 fn read_item(alloc: Global, beginning: &mut ReportSoFar, text: &[u8]) -> Result<Step, OutOfMemory>
     requires counted { IsCounted beginning.old }
     requires small { IsSmall beginning.old }
@@ -203,7 +203,7 @@ fn read_item(alloc: Global, beginning: &mut ReportSoFar, text: &[u8]) -> Result<
     }
 }
 
-/// Adds the pull that a line says after `@pull `; `Refused` where it says none, or the pull may not be next.
+/// Adds a pull from what follows `@pull ` on its line; `Refused` where that is malformed, or may not come next.
 fn read_pull(alloc: Global, beginning: &mut ReportSoFar, text: &[u8]) -> Result<Step, OutOfMemory>
     requires counted { IsCounted beginning.old }
     requires small { IsSmall beginning.old }
@@ -217,7 +217,7 @@ fn read_pull(alloc: Global, beginning: &mut ReportSoFar, text: &[u8]) -> Result<
     }
 }
 
-/// `End` where the report is whole and has as many runs as `text`, after `@end `, says; else `Refused`.
+/// Answers `End` where the report is whole and has as many runs as `text`, which follows `@end `, says; else `Refused`.
 fn read_end(beginning: &ReportSoFar, text: &[u8]) -> Step
     requires ruled { IsRuled beginning.now }
     ensures { EndsBy result beginning.now text.now }
@@ -228,7 +228,7 @@ fn read_end(beginning: &ReportSoFar, text: &[u8]) -> Step
     }
 }
 
-/// Adds what a line after the head says to the report; `Refused` where it says nothing, or may not be next.
+/// Adds what a line after the head says; `Refused` where the line is malformed, or may not come next.
 fn read_line(alloc: Global, beginning: &mut ReportSoFar, line: &[u8]) -> Result<Step, OutOfMemory>
     requires counted { IsCounted beginning.old }
     requires small { IsSmall beginning.old }
@@ -253,7 +253,7 @@ fn read_line(alloc: Global, beginning: &mut ReportSoFar, line: &[u8]) -> Result<
     read_task(alloc, beginning, first, text)
 }
 
-/// Reads the lines after the head off the device, up to the `@end` line; `BadLine` for one that may not be next.
+/// Reads the lines after the head, up to the `@end` line; `BadLine` for one that may not stand in its place.
 fn read_lines<R: Read>(
     alloc: Global,
     lines: &mut Lines,
@@ -291,7 +291,7 @@ fn read_lines<R: Read>(
     }
 }
 
-/// Reads the head, the first line, off the device; `BadLine(1)` for any other line.
+/// Reads the head, which is the first line; `BadLine(1)` where that line is no head.
 fn read_head<R: Read>(
     alloc: Global,
     lines: &mut Lines,
@@ -323,7 +323,7 @@ fn read_head<R: Read>(
     }
 }
 
-/// Reads what follows the head off the device, to its last byte; `BadLine` also for bytes after the `@end` line.
+/// Reads what follows the head, up to the device's end; `BadLine` also where bytes follow the `@end` line.
 fn read_rest<R: Read>(
     alloc: Global,
     lines: &mut Lines,
@@ -357,7 +357,7 @@ fn read_rest<R: Read>(
     Ok(())
 }
 
-/// Reads a whole report off the device, up to its last byte.
+/// Reads a report, up to the device's end; an Err tells the first line that is at fault, and why.
 fn read_all<R: Read>(
     alloc: Global,
     lines: &mut Lines,
@@ -381,7 +381,7 @@ fn read_all<R: Read>(
     Ok(beginning.into_report(alloc)?)
 }
 
-/// Reads a whole report, of either version, off a device up to its last byte. After a fault what was read is lost.
+/// Reads a report of either version, up to the device's end. After an Err, bytes that were read are lost.
 pub fn read_report<R: Read>(alloc: Global, device: &mut R) -> Result<Report, ReportFault>
     ensures ok { IfOk result (λ report.
         IfSome (R.left device.old) (λ bytes. bytes ≡ report_text report)) }

@@ -7,10 +7,10 @@ ghost use Rattle.bf_report_reader.specs.inner.Entries.{SaysOutcome};
 
 use bf_try::LONGEST_VALUE;
 use bf_value::{LineFault, OutOfMemory, Xval, read_line, text_of};
-use bf_xcom::Outcome;
+use bf_xcom::{Outcome, SharedValue};
 use std::alloc::Global;
 
-/// The value, where the text is its compact JSON; None where it is spelled otherwise.
+/// Gives the value where `text` is its compact JSON; None where the text spells it otherwise.
 pub(crate) fn value_if_spelled(
     alloc: Global,
     text: &[u8],
@@ -27,7 +27,8 @@ pub(crate) fn value_if_spelled(
     }
 }
 
-/// The value whose compact JSON a text is, `null` aside; None for any other text, and past `LONGEST_VALUE` bytes.
+/// Reads a pushed value from its compact JSON; None for `null`, for more than `LONGEST_VALUE` bytes, and for any other
+/// text.
 fn value_in(alloc: Global, text: &[u8]) -> Result<Option<Xval>, OutOfMemory>
     ensures some { IfOk result (λ o. IfSome o (Spells IsShownValue json_of text.now)) }
     ensures every { IfOk result (Finds (Spells IsShownValue json_of text.now)) }
@@ -42,14 +43,13 @@ fn value_in(alloc: Global, text: &[u8]) -> Result<Option<Xval>, OutOfMemory>
     }
 }
 
-/// How an instance ended that pushed nothing, by the word of its state: `success`, `failed` or `skipped`; None for
-/// any other.
+/// Reads how an instance that pushed nothing ended: `success`, `failed` or `skipped`; None for any other word.
 fn bare_outcome_in(state: &[u8]) -> Option<Outcome>
     ensures some { IfSome result (SaysOutcome state.now (codes "-")) }
     ensures every { Finds (SaysOutcome state.now (codes "-")) result }
 {
     if state == b"success".as_slice() {
-        Some(Outcome::Success(None))
+        Some(Outcome::Success(SharedValue::nothing()))
     } else if state == b"failed".as_slice() {
         Some(Outcome::Failed)
     } else if state == b"skipped".as_slice() {
@@ -59,20 +59,23 @@ fn bare_outcome_in(state: &[u8]) -> Option<Outcome>
     }
 }
 
-/// The success of an instance that pushed the value in this field; None where the field spells no value.
+/// Gives the success of an instance that pushed the value in this field; None where the field holds no value.
 fn pushing_outcome_in(alloc: Global, value: &[u8]) -> Result<Option<Outcome>, OutOfMemory>
     ensures some { IfOk result (λ o. IfSome o (SaysOutcome (codes "success") value.now)) }
     ensures every { IfOk result (λ o.
         value.now ≢ codes "-" → Finds (SaysOutcome (codes "success") value.now) o) }
 {
     match value_in(alloc, value)? {
-        Some(value) => Ok(Some(Outcome::Success(Some(value)))),
+        Some(value) => {
+            let pushed = SharedValue::new(alloc, Some(value))?;
+            Ok(Some(Outcome::Success(pushed)))
+        }
         None => Ok(None),
     }
 }
 
-/// How an instance ended, by the word of its state and the field of what it pushed, `-` for nothing; None where they
-/// don't fit, as a value to `failed`.
+/// Reads how an instance ended from its state word and the field of what it pushed, `-` for nothing; None where one is
+/// malformed, or a value goes with another state than `success`.
 pub(crate) fn outcome_in(
     alloc: Global,
     state: &[u8],

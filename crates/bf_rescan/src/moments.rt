@@ -8,8 +8,8 @@ ghost use Rattle.bf_rescan.specs.inner.Looks.{IsSoonest, IsTryAt, IsTryBefore, I
 use bf_core::{Core, Instance, Phase, name_of};
 use bf_waiting::{earlier_moment, instances_of};
 
-/// The moment for which the instance at `place`, from 0, of a task in a run waits, where that is later than what the
-/// clock shows; None where it waits for none.
+/// The moment, in seconds since 1970, for which the instance at `place`, from 0, of a task in a run waits; None where
+/// it waits for none, or for one that has come.
 fn moment_at(core: &Core<'_>, run: u32, task: u32, place: usize, instance: &Instance) -> Option<i64>
     requires few { place ≤ 1_024 }
     requires held { instance_of (cell_at core.now.state run task) place ≡ Some instance.now }
@@ -22,7 +22,8 @@ fn moment_at(core: &Core<'_>, run: u32, task: u32, place: usize, instance: &Inst
     core.later_moment_of(name_of(core.plan().dag(), run, task, place, instance.attempt))
 }
 
-/// The least of the later moments for which the instances of a task in a run wait; None where none waits for one.
+/// The earliest moment still to come, in seconds since 1970, for which an instance of a task in a run waits; None where
+/// none waits for one.
 fn earliest_moment_of_task(core: &Core<'_>, run: u32, task: u32) -> Option<i64>
     requires { IsThere core.now.dag core.now.state run task }
     ensures { IsSoonest core.now (IsTryOf run task) result }
@@ -38,8 +39,8 @@ fn earliest_moment_of_task(core: &Core<'_>, run: u32, task: u32) -> Option<i64>
     soonest
 }
 
-/// The least of the later moments for which tries of this run and of the runs before wait; `earlier` is that of the
-/// runs before, None where none of them waits for one.
+/// The earliest moment still to come, in seconds since 1970, for which a try of this run or of a run before it waits;
+/// None where none waits for one. `earlier` is the same for the runs before it.
 fn earliest_moment_up_to_run(core: &Core<'_>, run: u32, earlier: Option<i64>) -> Option<i64>
     requires run { run < length core.now.state.runs }
     requires earlier { IsSoonest core.now (IsTryBefore run 0) earlier }
@@ -53,8 +54,7 @@ fn earliest_moment_up_to_run(core: &Core<'_>, run: u32, earlier: Option<i64>) ->
     soonest
 }
 
-/// The least of the later moments for which tries wait, in seconds since 1970: at it one of them may begin, as far as
-/// the clock goes. None where none waits for one.
+/// The earliest moment still to come for which a try waits, in seconds since 1970; None where no try waits for one.
 pub fn next_moment(core: &Core<'_>) -> Option<i64>
     ensures { IsNextMoment core.now result }
 {

@@ -9,7 +9,7 @@ ghost use Rattle.bf_due.specs.Steps.{IsEarlier, IsNextStep, StandsBefore};
 use bf_core::{Core, Event};
 use bf_due::may_decide;
 
-/// The first run that may be closed; None where none may.
+/// The first run, by its number, that may be closed; None where none may.
 fn first_closable_run(core: &Core<'_>) -> Option<u32>
     ensures may_come { IfSome result (λ k. MayCome core.now (Event.Close k)) }
     ensures first { IfSome result (λ k. (j : ℕ) → MayCome core.now (Event.Close j) → k ≤ j) }
@@ -57,8 +57,8 @@ fn first_decidable_run_and_task(core: &Core<'_>, order: &[u32], expands: bool) -
     None
 }
 
-/// The first step that may come by itself: a close, an open, a settle or an expand, by this order of kinds and then
-/// by run, by rank and in the order of the file; None where none may come. `order` has the tasks by rank.
+/// The first step that may come by itself: a close, an open, a settle or an expand, in this order of kinds, then by
+/// run, by rank and in file order. None where none may come. `order` has the tasks by rank.
 pub fn next_step(core: &Core<'_>, order: &[u32]) -> Option<Event>
     requires by_rank { IsByRank (shape_of core.now.dag).upstreams order.now }
     ensures { IsNextStep core.now result }

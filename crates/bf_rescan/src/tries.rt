@@ -65,8 +65,8 @@ fn first_try_of_task(core: &Core<'_>, run: u32, task: u32) -> Option<JobName>
     None
 }
 
-/// The first try of the greatest weight of those that may begin in this run and the runs before; `earlier` is that of
-/// the runs before. `weights` has the total weight of each task.
+/// Of the tries that may begin now in this run and the runs before it, the first one of the greatest total weight; None
+/// where none may. `earlier` is the same for the runs before it. `weights` has the total weight of each task.
 fn best_try_up_to_run(
     core: &Core<'_>,
     weights: &[u32],
@@ -86,9 +86,8 @@ fn best_try_up_to_run(
     best
 }
 
-/// The try that begins next: of those that may begin now the one of the greatest total weight, and of several the
-/// first by run, in the order of the file and by map index; None where none may. `weights` has the total weight of
-/// each task.
+/// The try to begin next: of those that may begin now, the one of the greatest total weight, and among equals the first
+/// by run, in file order and by map index. None where none may. `weights` has the total weight of each task.
 pub fn next_try(core: &Core<'_>, weights: &[u32]) -> Option<JobName>
     requires weights { AreWeights core.now.dag core.now.limits weights.now }
     ensures { IsNextTry core.now result }

@@ -5,7 +5,7 @@ ghost use Rattle.bf_report.specs.declared.report.Report.{Report};
 ghost use Rattle.bf_roots.specs.declared.step.Root.{Root};
 ghost use Rattle.bf_roots.specs.Walks.{AreRootsOf, IsRootOf};
 
-/// Of each root in the list, the walk comes to its task in its run, and what the root says began at that task.
+/// A law: the walk comes to the task and run of each root in the list, and what the root says began there.
 pub fn each_root_is_come_to()
     ensures { (dag : Dag) (report : Report) (run task : ℕ) (roots : List Root)
         → AreRootsOf dag report run task roots →

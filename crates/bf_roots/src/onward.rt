@@ -22,7 +22,8 @@ pub fn is_tried(told: &Settled<'_>) -> bool
     )
 }
 
-/// What began at a task that ran: Failed where an instance failed, else Exited where one was skipped, and else None.
+/// What began at a task by how its instances ended: `Failed` where one is failed or upstream_failed, else `Exited`
+/// where one is skipped, else None.
 fn began_by_end(settled: &[Settled<'_>], task: u32) -> Option<Began>
     ensures { result ≡ began_by_end_in settled.now task }
 {
@@ -35,8 +36,8 @@ fn began_by_end(settled: &[Settled<'_>], task: u32) -> Option<Began>
     }
 }
 
-/// What began at a task: `began` where it is given, else by how the task ended where it was tried; None where nothing
-/// began.
+/// What began at task number `task`: `began` where it is given, else `Failed` or `Exited` by how its instances ended.
+/// None where none failed or was skipped, the task didn't run, or `settled` lacks it.
 fn began_at(settled: &[Settled<'_>], task: u32, began: Option<Began>) -> Option<Began>
     ensures { result ≡ began_in settled.now task began }
 {
@@ -47,7 +48,8 @@ fn began_at(settled: &[Settled<'_>], task: u32, began: Option<Began>) -> Option<
     }
 }
 
-/// Adds the root of a step's task and run to `roots`, where something began at that task.
+/// Adds the task and run of `step` to `roots` where something began there; adds nothing otherwise. `settled` are the
+/// tasks of the step's run.
 pub(crate) fn add_root(
     roots: &mut Vec<Root>,
     settled: &[Settled<'_>],
@@ -75,8 +77,8 @@ fn skips_for_skipped(rule: Rule) -> bool
     )
 }
 
-/// A list of this one task; the empty list for None.
-fn tasks_of_option(alloc: Global, task: Option<u32>) -> Result<Vec<u32>, OutOfMemory>
+/// The given task in a list of its own; the empty list for None.
+fn list_of_one(alloc: Global, task: Option<u32>) -> Result<Vec<u32>, OutOfMemory>
     ensures { IfOk result (λ tasks. tasks.items ≡ tasks_of_option_of task) }
 {
     let mut tasks = Vec::new(alloc);
@@ -86,7 +88,7 @@ fn tasks_of_option(alloc: Global, task: Option<u32>) -> Result<Vec<u32>, OutOfMe
     Ok(tasks)
 }
 
-/// The skipped upstreams of a task whose rule skips it for them; none under another rule.
+/// The skipped upstreams of a task whose trigger rule may skip it for them, in order. Empty under any other rule.
 fn skipped_upstreams(
     alloc: Global,
     settled: &[Settled<'_>],
@@ -102,7 +104,8 @@ fn skipped_upstreams(
     }
 }
 
-/// The tasks that made the state of a task what it is, by its cause; none where the cause is that it waits or runs.
+/// The tasks that made a task's state what it is, by its cause: upstreams, the task itself in the run before, or the
+/// task that it is expanded over. Empty where it waits or runs.
 fn next_tasks(
     alloc: Global,
     plan: &Plan,
@@ -115,21 +118,22 @@ fn next_tasks(
         ≡ next_tasks_of plan.now.dag settled.now task cause) }
 {
     let dag = plan.dag();
-    let made = dag.task(task);
-    let upstreams = made.upstreams.as_slice();
+    let here = dag.task(task);
+    let upstreams = here.upstreams.as_slice();
     match cause {
         StateCause::NotFollowed => Ok(branches_that_skip(alloc, plan, settled, upstreams, task)?),
         StateCause::BranchIsBlocked => Ok(blocked_branches(alloc, dag, settled, upstreams)?),
         StateCause::UpstreamIsBlocked => Ok(blocked_tasks(alloc, settled, upstreams)?),
         StateCause::RuleFails => Ok(tasks_in_states(alloc, settled, upstreams, States::FAILURES)?),
-        StateCause::RuleSkips => skipped_upstreams(alloc, settled, made),
-        StateCause::PastHasNotPassed => tasks_of_option(alloc, Some(task)),
-        StateCause::ItemsAreMissing | StateCause::HasNoItems => tasks_of_option(alloc, made.expand),
+        StateCause::RuleSkips => skipped_upstreams(alloc, settled, here),
+        StateCause::PastHasNotPassed => list_of_one(alloc, Some(task)),
+        StateCause::ItemsAreMissing | StateCause::HasNoItems => list_of_one(alloc, here.expand),
         StateCause::Waits | StateCause::Runs(_) => Ok(Vec::new(alloc)),
     }
 }
 
-/// The run of the walk's next step: the run before `run` where the cause is the past, and else `run`.
+/// The run that the walk goes to next: the run before `run`, or 0 for run 0, where the cause is the task's past, else
+/// `run`.
 fn next_run(run: u32, cause: StateCause) -> u32
     ensures { result ≡ next_run_of run cause }
 {
@@ -139,7 +143,8 @@ fn next_run(run: u32, cause: StateCause) -> u32
     }
 }
 
-/// What began at the tasks to which this cause leads, where that ends the walk; None where the walk looks at them.
+/// What began at the tasks that this cause leads to, where the cause tells, so that the walk ends there; None where the
+/// walk has to look at them.
 fn began_by_cause(cause: StateCause) -> Option<Began>
     ensures { result ≡ began_by_cause_in cause }
 {
@@ -150,8 +155,8 @@ fn began_by_cause(cause: StateCause) -> Option<Began>
     }
 }
 
-/// The walk's steps to these tasks from a task in `run`, in their order. The cause gives their run and what began at
-/// them.
+/// The walk's steps from run number `run` to these tasks, in order. The cause tells in which run they are and, for some
+/// causes, what began there.
 fn steps_to(
     alloc: Global,
     run: u32,
@@ -170,7 +175,7 @@ fn steps_to(
     Ok(steps)
 }
 
-/// Whether the walk goes on from a task: it has no try, and what the report has of it, `told`, follows from the
+/// Whether the walk goes on from a task: by `told`, its report, the task didn't run, and its state follows from the
 /// cause.
 fn goes_on(is_expanded: bool, cause: StateCause, told: &Settled<'_>) -> bool
     ensures { result ≡ goes_on_in is_expanded cause told.now }
@@ -178,8 +183,8 @@ fn goes_on(is_expanded: bool, cause: StateCause, told: &Settled<'_>) -> bool
     !is_tried(told) && !is_foreign(is_expanded, cause, told)
 }
 
-/// The walk's steps onward from a task that the report has as `told`, for this cause; none where the task was tried
-/// or its state doesn't follow from the cause.
+/// The walk's steps onward from task number `task` in `run`, by this cause of its state. Empty where by `told`, its
+/// report, it ran or its state doesn't follow from the cause.
 fn steps_for_cause(
     alloc: Global,
     plan: &Plan,
@@ -201,8 +206,8 @@ fn steps_for_cause(
     }
 }
 
-/// The walk's steps onward from a task in `run`; none where there is no such task. `settled` are the tasks of the run
-/// and `before` those of the run before, none for the first.
+/// The walk's steps onward from task number `task` in run number `run`; empty where `settled` lacks it. `settled` are
+/// the tasks of that run and `before` those of the run before, empty for the first.
 fn steps_from(
     alloc: Global,
     plan: &Plan,
@@ -225,8 +230,8 @@ fn steps_from(
     }
 }
 
-/// The walk's steps onward from a step; none where something is given to have begun at it. `settled` are the tasks of
-/// its run and `before` those of the run before, none for the first.
+/// The walk's steps onward from `step`, at most 20,000; empty where it tells already what began. `settled` are the
+/// tasks of its run and `before` those of the run before, empty for the first.
 pub(crate) fn steps_onward(
     alloc: Global,
     plan: &Plan,

@@ -20,7 +20,8 @@ pub(crate) fn unseen_rows(
     Ok(seen)
 }
 
-/// Whether a task in a run is seen; true where there is no such task or run.
+/// Whether task number `task` is marked as seen in run number `run`; true where `seen` has no such task or run, so that
+/// the walk passes it by.
 pub(crate) fn is_seen(seen: &[Sequence<bool>], run: u32, task: u32) -> bool
     ensures { result ≡ is_seen_in seen.now run task }
 {
@@ -30,7 +31,7 @@ pub(crate) fn is_seen(seen: &[Sequence<bool>], run: u32, task: u32) -> bool
     }
 }
 
-/// Whether a task is seen in the row of its run; true where there is no such task.
+/// Whether task number `task` is marked as seen in `row`, that of its run; true where the row has no such task.
 fn is_seen_in(row: &[bool], task: u32) -> bool
     ensures { result ≡ slice_index_or row.now task true }
 {
@@ -40,7 +41,7 @@ fn is_seen_in(row: &[bool], task: u32) -> bool
     }
 }
 
-/// Marks a task in a run as seen. Both are in `seen`.
+/// Marks task number `task` in run number `run` as seen. `seen` has its flag, which isn't set yet.
 pub(crate) fn mark_seen(seen: &mut Vec<Sequence<bool>>, run: u32, task: u32)
     requires { is_seen_in seen.old.items run task ≡ false }
     ensures { seen.new.items ≡ with_seen seen.old.items run task }

@@ -1,19 +1,19 @@
 //! Steps of the walk, and what is found on it.
 
-/// What began at a task in a run, by how the task ended or what it pushed.
+/// What happened at a task in a run that gave later tasks their states.
 #[derive(Clone, Copy, Debug, PartialEq, Eq)]
 pub enum Began {
-    /// An instance of it failed.
+    /// An instance of the task failed.
     Failed,
-    /// An instance of it exited with 99, and none failed.
+    /// An instance of the task exited with 99, and none failed.
     Exited,
-    /// It is a branch, and doesn't follow the task that was come from.
+    /// The task is a branch, and doesn't follow the task that the walk came from.
     Pushed,
-    /// It is a source, and gives no items.
+    /// Another task is expanded over this one, which gave it no items.
     PushedNoItems,
 }
 
-/// A task in a run, by their numbers, at which something began.
+/// A task in a run, by their numbers from 0, where the state of another task began, and what happened there.
 #[derive(Clone, Copy, Debug, PartialEq, Eq)]
 pub struct Root {
     pub run: u32,
@@ -21,8 +21,8 @@ pub struct Root {
     pub began: Began,
 }
 
-/// A task in a run, by their numbers, to which the walk comes. Where `began` is given the walk ends at it; else it
-/// looks at how the task ended.
+/// A task in a run, by their numbers from 0, that the walk comes to. Where `began` is given the walk ends there; else
+/// it looks at how the task ended.
 #[derive(Clone, Copy, Debug, PartialEq, Eq)]
 pub struct WalkStep {
     pub run: u32,

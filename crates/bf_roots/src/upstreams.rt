@@ -9,7 +9,7 @@ use bf_reason::{Settled, is_blocked, is_blocked_branch, is_skipping_branch};
 use bf_why::{States, has_instance_in};
 use std::alloc::{AllocError, Global};
 
-/// Those of these upstreams, in their order, that are branches which succeeded and don't follow `task`.
+/// The branches among `upstreams` that succeeded and don't follow `task`, in order. `settled` are the tasks of the run.
 pub(crate) fn branches_that_skip(
     alloc: Global,
     plan: &Plan,
@@ -28,7 +28,7 @@ pub(crate) fn branches_that_skip(
         .collect(alloc)
 }
 
-/// Those of these upstreams, in their order, that are branches without a status.
+/// The branches without a status among `upstreams`, in order. `settled` are the tasks of the run.
 pub(crate) fn blocked_branches(
     alloc: Global,
     dag: &Dag,
@@ -45,7 +45,7 @@ pub(crate) fn blocked_branches(
         .collect(alloc)
 }
 
-/// Those of these upstreams, in their order, that have no status.
+/// The tasks without a status among `upstreams`, in order. `settled` are the tasks of the run.
 pub(crate) fn blocked_tasks(
     alloc: Global,
     settled: &[Settled<'_>],
@@ -61,7 +61,8 @@ pub(crate) fn blocked_tasks(
         .collect(alloc)
 }
 
-/// Those of these upstreams, in their order, that have an instance in one of these states.
+/// The tasks among `upstreams` that have an instance in one of these states, in order. `settled` are the tasks of the
+/// run.
 pub(crate) fn tasks_in_states(
     alloc: Global,
     settled: &[Settled<'_>],

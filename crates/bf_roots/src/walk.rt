@@ -13,7 +13,7 @@ use bf_report::Report;
 use bf_value::{OutOfMemory, Sequence};
 use std::alloc::Global;
 
-/// Where the walk has been, where it has still to go, the next place last, and what it has found.
+/// The state of a walk: the tasks in runs that it has seen, the steps left, the next one last, and the roots found.
 #[derive(Drop)]
 struct Trail {
     seen: Vec<Sequence<bool>>,
@@ -21,7 +21,7 @@ struct Trail {
     found: Vec<Root>,
 }
 
-/// The step at a task in a run, where nothing is known to have begun.
+/// The step to task number `task` in run number `run`, at which the walk looks at how the task ended.
 fn first_step(run: u32, task: u32) -> WalkStep
     ensures { result ≡ first_step_of run task }
 {
@@ -33,7 +33,7 @@ fn first_step(run: u32, task: u32) -> WalkStep
 }
 
 impl Trail {
-    /// A trail over `runs` runs of `tasks` tasks each, with one step left to go and nothing seen or found.
+    /// A trail over `runs` runs of `tasks` tasks each, with `step` left to go and nothing seen or found.
     fn new(alloc: Global, runs: usize, tasks: usize, step: WalkStep) -> Result<Trail, OutOfMemory>
         ensures seen { IfOk result (λ trail. trail.seen.items ≡ nothing_seen runs tasks) }
         ensures left { IfOk result (λ trail. trail.left.items ≡ step ∷ []) }
@@ -46,8 +46,8 @@ impl Trail {
         Ok(Trail { seen, left, found })
     }
 
-    /// Visits the task of a step, which isn't seen yet: marks it as seen, adds the root where something began at it,
-    /// and puts the steps onward before those left. `window` is at the step's run.
+    /// Visits the task of `step`, which isn't seen yet: marks it as seen, adds a root where something began there, and
+    /// puts the steps onward before those left. `window` is at the step's run.
     fn visit(
         &mut self,
         alloc: Global,
@@ -69,9 +69,9 @@ impl Trail {
     }
 }
 
-/// The roots of the state of a task in a run: the tasks in runs where what made it so began, in the order in which
-/// the walk finds them. Each run has the tasks of the graph, and none of these more than 1,024 instances. Takes time
-/// over the tasks of a run each time that the walk turns to one.
+/// The roots of the state of task number `task` in run number `run`: the tasks in runs where it began, in the order in
+/// which the walk finds them. Each run has the plan's tasks, and no task has more than 1,024 instances. Each turn of
+/// the walk to another run takes time over all tasks.
 pub fn roots_of(
     alloc: Global,
     plan: &Plan,

@@ -9,7 +9,7 @@ use bf_report::{Report, TaskReport};
 use bf_value::OutOfMemory;
 use std::alloc::Global;
 
-/// The tasks of a run and, as `before`, those of the run before it, none for the first.
+/// What a report has of the tasks of a run, `settled`, and of the run before it, `before`, empty for the first run.
 #[derive(Drop)]
 pub(crate) struct Window<'a> {
     pub(crate) run: u32,
@@ -17,7 +17,7 @@ pub(crate) struct Window<'a> {
     pub(crate) before: Vec<Settled<'a>>,
 }
 
-/// The tasks of a run, 0 for the first, in a report; none where there is no such run.
+/// The tasks of run number `run`, from 0; empty where the report has no such run.
 fn tasks_of(report: &Report, run: usize) -> &[TaskReport]
     requires { All (λ run. All IsFewTask run.tasks) report.now.runs }
     ensures tasks { result.now ≡ tasks_in report.now run }
@@ -29,7 +29,7 @@ fn tasks_of(report: &Report, run: usize) -> &[TaskReport]
     }
 }
 
-/// The tasks of the run before `run` in a report; none before the first.
+/// The tasks of the run before run number `run`; empty for run 0, and where the report has no such run.
 fn tasks_before_run(report: &Report, run: usize) -> &[TaskReport]
     requires { All (λ run. All IsFewTask run.tasks) report.now.runs }
     ensures tasks { result.now ≡ tasks_before report.now run }
@@ -43,8 +43,8 @@ fn tasks_before_run(report: &Report, run: usize) -> &[TaskReport]
 }
 
 impl<'a> Window<'a> {
-    /// The window at a run: what the report has of the run's tasks and of those of the run before. A run that isn't
-    /// there has no tasks.
+    /// Reads from the report the tasks of run number `run` and of the run before. A run that the report lacks has no
+    /// tasks.
     pub(crate) fn at(alloc: Global, report: &'a Report, run: u32) -> Result<Window<'a>, OutOfMemory>
         requires { All (λ run. All IsFewTask run.tasks) report.now.runs }
         ensures run { IfOk result (λ window. window.run ≡ run) }
@@ -59,7 +59,7 @@ impl<'a> Window<'a> {
         })
     }
 
-    /// The window at a run: `self` where it is at that run already, and else a new one.
+    /// The window at run number `run`: `self` where it is there already, else a new one.
     pub(crate) fn moved(
         self,
         alloc: Global,

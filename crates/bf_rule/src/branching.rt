@@ -8,7 +8,7 @@ ghost use Rattle.std.specs.List.{list_all, list_any};
 use bf_graph::Graph;
 use bf_value::Xval;
 
-/// Whether a task comes directly after a branch.
+/// Whether a task comes directly after a branch: it has the branch as an upstream.
 fn is_direct_downstream(graph: &Graph, branch: u32, task: u32) -> bool
     requires { task < length graph.now.upstreams }
     ensures { result ≡ is_direct_downstream_in graph.now branch task }
@@ -19,7 +19,7 @@ fn is_direct_downstream(graph: &Graph, branch: u32, task: u32) -> bool
         .any(|upstream| *upstream == branch)
 }
 
-/// Whether this is the id of a task that comes directly after the branch.
+/// Whether `name` is the id of a task that comes directly after the branch.
 fn is_downstream_name(graph: &Graph, branch: u32, name: &str) -> bool
     ensures { result ≡ is_downstream_name_in graph.now branch (Some name.now) }
 {
@@ -30,7 +30,7 @@ fn is_downstream_name(graph: &Graph, branch: u32, name: &str) -> bool
     }
 }
 
-/// Whether a value is a text with the id of a task directly after the branch.
+/// Whether a value is a text, and the id of a task directly after the branch.
 fn is_downstream_value(graph: &Graph, branch: u32, value: &Xval) -> bool
     ensures { result ≡ is_downstream_name_in graph.now branch (name_in value.now) }
 {
@@ -40,7 +40,7 @@ fn is_downstream_value(graph: &Graph, branch: u32, value: &Xval) -> bool
     }
 }
 
-/// Whether each value is a text with the id of a task directly after the branch.
+/// Whether each value is a text, and the id of a task directly after the branch.
 fn are_downstream_values(graph: &Graph, branch: u32, values: &[Xval]) -> bool
     ensures { result ≡ list_all
         (λ v. is_downstream_name_in graph.now branch (name_in v)) values.now }
@@ -100,7 +100,8 @@ fn follows_by_value(graph: &Graph, branch: u32, value: &Xval, task: u32) -> bool
     }
 }
 
-/// Whether a branch that pushes a list of these values lets a task follow by one of them that is an id.
+/// Whether a branch that pushes a list of these values lets a task follow: one of them is the id of a task directly
+/// after the branch, which is `task` or which `task` comes after.
 fn follows_by_values(graph: &Graph, branch: u32, values: &[Xval], task: u32) -> bool
     requires { task < length graph.now.upstreams }
     ensures { result ≡ list_any
@@ -111,7 +112,7 @@ fn follows_by_values(graph: &Graph, branch: u32, values: &[Xval], task: u32) -> 
         .any(|value| follows_by_value(graph, branch, value, task))
 }
 
-/// Whether a branch that pushes this, an id or a list of ids, lets a task follow; false for any other value.
+/// Whether a branch that pushes this value, an id or a list of ids, lets a task follow; false for any other value.
 fn follows_by_pushed(graph: &Graph, branch: u32, value: &Xval, task: u32) -> bool
     requires { task < length graph.now.upstreams }
     ensures { result ≡ followed_at graph.now branch (Some value.now) task }

@@ -30,21 +30,21 @@ impl Counts {
         }
     }
 
-    /// How many failed or are upstream_failed.
+    /// How many instances failed or are upstream_failed.
     fn failures(&self) -> u64
         ensures { result ≡ failures_of self.now }
     {
         u64::from(self.failed) + u64::from(self.upstream_failed)
     }
 
-    /// How many have an end, be it skipped: all but the blocked and the unfinished.
+    /// How many instances have finished, be it skipped: all but the blocked and the unfinished.
     fn finished(&self) -> u64
         ensures { result ≡ finished_of self.now }
     {
         u64::from(self.success) + self.failures() + u64::from(self.skipped)
     }
 
-    /// How many there are, in whatever state.
+    /// How many instances there are, in whatever state.
     fn total(&self) -> u64
         ensures { result ≡ total_of self.now }
     {
@@ -67,15 +67,15 @@ pub fn is_rule_met(rule: Rule, counts: &Counts) -> bool
     }
 }
 
-/// The verdict to run where `runs`, and else the other one.
+/// `Verdict::Run` where `runs`, else `otherwise`.
 fn run_if(runs: bool, otherwise: Verdict) -> Verdict
     ensures { result ≡ (if runs then Verdict.Run else otherwise) }
 {
     if runs { Verdict::Run } else { otherwise }
 }
 
-/// What the table of docs/SPECIFICATION.md says of a rule once all instances of the upstreams have finished, and none
-/// is blocked.
+/// The verdict of a rule by the table of docs/SPECIFICATION.md, once all instances of the upstreams have finished and
+/// none is blocked.
 fn verdict_by_table(rule: Rule, counts: &Counts) -> Verdict
     ensures { result ≡ verdict_by_table_of rule counts.now }
 {
@@ -98,10 +98,10 @@ fn verdict_by_table(rule: Rule, counts: &Counts) -> Verdict
     }
 }
 
-/// The verdict on a task, from how many instances of its upstreams are in each state (Airflow's "Trigger Rules";
-/// what each rule says at each count is this project's own). A task without upstreams runs, and so does one whose
-/// rule finds what it looks for among the instances that have finished. Else an unfinished upstream makes it wait,
-/// then a blocked one blocks it, and then the table decides.
+/// The verdict on a task, from how many instances of its upstreams are in each state (Airflow's "Trigger Rules"; what
+/// each rule says at each count is this project's own). A task without upstreams runs, and so does one whose rule finds
+/// what it looks for among the instances that have finished. Else an unfinished upstream makes it wait, then a blocked
+/// one blocks it, and then `verdict_by_table` decides.
 #[tactic(auto, unfolding(crate::specs::Verdicts::verdict_of))]
 pub fn verdict(rule: Rule, counts: &Counts) -> Verdict
     ensures { result ≡ verdict_of rule counts.now }

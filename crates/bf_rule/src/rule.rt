@@ -20,7 +20,7 @@ pub enum Rule {
 }
 
 impl Rule {
-    /// The rule of a name, as Airflow writes it: `all_success`; nothing where no rule has the name.
+    /// The rule with this name, written as in Airflow (`all_success`); None where no rule has it.
     pub fn named(name: &str) -> Option<Rule>
         ensures { result ≡ rule_named name.now }
     {

@@ -8,7 +8,7 @@ pub trait RunCount {
     /// How many runs there are.
     ghost runs: { Self → ℕ };
 
-    /// How many runs there are.
+    /// How many runs there are, at most 4,096.
     fn count(&self) -> usize
         ensures count { result ≡ runs self.now }
         ensures few { result ≤ 4_096 };

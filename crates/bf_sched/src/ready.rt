@@ -50,7 +50,7 @@ impl<'a> Model for Ready<'a> {
     ghost invariant = { λ r. IsUpToDate r.core r.due × KeepsTries r.core r.waiting };
 }
 
-/// The event that came last, if any came.
+/// The event that came last; None where none came yet.
 fn last_event<'c>(core: &'c Core<'_>) -> Option<&'c Event>
     ensures { (b : Backfill) (e : Event) → core.now ≡ moved b e → option_copied result
         ≡ Some e }
@@ -59,7 +59,7 @@ fn last_event<'c>(core: &'c Core<'_>) -> Option<&'c Event>
 }
 
 impl<'a> Ready<'a> {
-    /// What may come next in a backfill, as far as that has come.
+    /// Takes up a backfill as far as it has come, and finds what may come next in it.
     pub fn new(alloc: Global, core: Core<'a>) -> Result<Ready<'a>, OutOfMemory>
         ensures { IfOk result (λ ready. ready ≡ core.entry) }
     {
@@ -83,7 +83,9 @@ impl<'a> Ready<'a> {
         self.core.journal()
     }
 
-    /// Lets an event come, or refuses it and changes nothing, just as the core does.
+    /// Lets an event come, or refuses it and changes nothing: `Stranger` where what it names isn't there, else
+    /// `NotEnabled` where it may not come now for another cause than want of room, else `NoRoom`. `OutOfMemory` may
+    /// stand in place of any answer, and alone refuses an event that may come.
     pub fn apply(&mut self, event: Event) -> Result<(), Illegal>
         ensures ok { OnOk result (HasCome self.old event self.new) }
         ensures err { IfErr result (IsRefusal self.old event) }
@@ -104,29 +106,30 @@ impl<'a> Ready<'a> {
         Ok(())
     }
 
-    /// The first step that may come by itself: a close, an open, a settle or an expand; None where none may come.
+    /// The first step that may come by itself: a close, an open, a settle or an expand, in this order. None where none
+    /// may come.
     pub fn next_step(&self) -> Option<Event>
         ensures { IsNextStep self.now result }
     {
         self.due.next_step()
     }
 
-    /// The try that begins next: of those that may begin now, the first one of the greatest total weight; None where
-    /// none may begin now.
+    /// The try to begin next: of those that may begin now, the first one of the greatest total weight. None where none
+    /// may begin now.
     pub fn next_try(&self) -> Option<JobName>
         ensures { IsNextTry self.now result }
     {
         self.waiting.next_try(&self.core)
     }
 
-    /// The least of the later moments for which tries wait, in seconds since 1970; None where none waits for one.
+    /// The earliest moment still to come for which a try waits, in seconds since 1970; None where no try waits for one.
     pub fn next_moment(&self) -> Option<i64>
         ensures { IsNextMoment self.now result }
     {
         self.waiting.next_moment()
     }
 
-    /// What the backfill came to, where it has ended; else the backfill with its queues is handed back.
+    /// Answers what the backfill came to. `Err` hands it back as it was, where a run isn't closed.
     pub fn into_ended(self) -> Result<Ended<'a>, Ready<'a>>
         ensures ok { IfOk result (λ ended. ended ≡ ending_of self.entry ended.run_states) }
         ensures closed { OnOk result (HasEnded self.entry.state) }

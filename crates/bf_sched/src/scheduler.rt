@@ -18,7 +18,7 @@ use bf_workers::Workers;
 use std::alloc::Global;
 use std::marker::Model;
 
-/// A backfill with the choice of its events, for so many workers.
+/// A backfill, and the choice of its events for so many workers.
 #[derive(Drop)]
 pub struct Scheduler<'a> {
     alloc: Global,
@@ -53,7 +53,7 @@ impl<'a> Model for Scheduler<'a> {
     ghost invariant = { λ s. IsScheduler s.ready s.workers s.running };
 }
 
-/// Lets an event come that may come now: only memory can be wanting.
+/// Lets an event come that may come now. `Err`, at want of memory, changes nothing.
 fn apply_allowed(ready: &mut Ready<'_>, event: Event) -> Result<(), OutOfMemory>
     requires { MayCome ready.old event }
     ensures ok { OnOk result (ready.new ≡ moved ready.old event) }
@@ -66,8 +66,8 @@ fn apply_allowed(ready: &mut Ready<'_>, event: Event) -> Result<(), OutOfMemory>
     }
 }
 
-/// Moves the clock to a moment, in seconds since 1970. False, and nothing moved, where that isn't later than what it
-/// shows, or is past `LAST_MOMENT`.
+/// Moves the clock to `moment`, in seconds since 1970, and answers true; false, and nothing moved, where the moment
+/// isn't later than the clock's time or is past `LAST_MOMENT`. `Err`, at want of memory, changes nothing.
 fn try_tick(ready: &mut Ready<'_>, moment: i64) -> Result<bool, OutOfMemory>
     ensures ok { IfOk result (λ came. HasComeTo ready.old moment came ready.new) }
     ensures same { OnErr result (ready.new ≡ ready.old) }
@@ -79,7 +79,7 @@ fn try_tick(ready: &mut Ready<'_>, moment: i64) -> Result<bool, OutOfMemory>
     }
 }
 
-/// Begins a try that may begin, and gives the ticket for its runner.
+/// Begins a try that may begin, and gives the ticket for its runner. `Err`, at want of memory, changes nothing.
 fn begin(alloc: Global, ready: &mut Ready<'_>, name: JobName) -> Result<Ticket, OutOfMemory>
     requires { MayCome ready.old (Event.Begin name) }
     ensures ticket { IfOk result (λ ticket. IsTicketOf ready.old name ticket) }
@@ -96,8 +96,8 @@ fn begin(alloc: Global, ready: &mut Ready<'_>, name: JobName) -> Result<Ticket, 
     }
 }
 
-/// The grade of an answer. `Stranger` where its task isn't there, or its try runs and was given something else; that
-/// the try runs isn't required.
+/// The outcome with which an answer ends its try. `Stranger` where the answer's task isn't there, or its try runs and
+/// was given something else; `OutOfMemory` at want of memory. That the try runs isn't required.
 fn grade_answer(alloc: Global, core: &Core<'_>, done: &Done) -> Result<Outcome, Illegal>
     ensures ok { IfOk result (λ o. (o ≡ grade_of core.now.dag done.now.name.task done.now.raw)
         × IsSameGiven core.now done.now) }
@@ -119,7 +119,7 @@ fn grade_answer(alloc: Global, core: &Core<'_>, done: &Done) -> Result<Outcome, 
 }
 
 impl<'a> Scheduler<'a> {
-    /// The scheduler of a backfill in which no try runs, for so many workers.
+    /// A scheduler for a backfill in which no try runs, and for so many workers.
     pub fn new(
         alloc: Global,
         core: Core<'a>,
@@ -136,7 +136,7 @@ impl<'a> Scheduler<'a> {
         })
     }
 
-    /// How many tries run.
+    /// How many tries run now, at most one for each worker.
     pub fn running(&self) -> u32
         ensures running { result ≡ running_now self.now.backfill.state }
         ensures within { result ≤ self.now.workers }
@@ -144,16 +144,16 @@ impl<'a> Scheduler<'a> {
         self.running
     }
 
-    /// The least of the later moments for which tries wait, in seconds since 1970; None where none waits for one.
+    /// The earliest moment still to come for which a try waits, in seconds since 1970; None where no try waits for one.
     pub fn pending(&self) -> Option<i64>
         ensures { IsNextMoment self.now.backfill result }
     {
         self.ready.next_moment()
     }
 
-    /// Lets the first event come that comes by itself: a close, an open, a settle or an expand; else begins the try of
-    /// the greatest total weight that fits its pool and whose moment has come, while a worker is free; else waits for a
-    /// try that runs, or, where none does, for a moment. Where nothing is left to wait for the backfill has ended.
+    /// Lets the first event come that comes by itself; else, while a worker is free, begins the try of the greatest
+    /// total weight that may begin. Where neither can be, answers `Wait` while a try runs, `Until` where one waits for
+    /// a moment, else `Ended`. `Err`, at want of memory, changes nothing.
     pub fn next(&mut self) -> Result<Next, OutOfMemory>
         ensures ok { IfOk result (λ next. IsNext self.old next self.new) }
         ensures same { OnErr result (self.new ≡ self.old) }
@@ -180,8 +180,8 @@ impl<'a> Scheduler<'a> {
         Ok(Next::Ended)
     }
 
-    /// Moves the clock to a moment, in seconds since 1970. Says whether it did: where the moment is later than what
-    /// it shows, and no later than `LAST_MOMENT`.
+    /// Moves the clock to `moment`, in seconds since 1970, and answers true; false, and nothing moved, where the moment
+    /// isn't later than the clock's time or is past `LAST_MOMENT`. `Err`, at want of memory, changes nothing.
     pub fn tick(&mut self, moment: i64) -> Result<bool, OutOfMemory>
         ensures ok { IfOk result (λ came. HasTicked self.old moment came self.new) }
         ensures same { OnErr result (self.new ≡ self.old) }
@@ -191,7 +191,8 @@ impl<'a> Scheduler<'a> {
         Ok(came)
     }
 
-    /// Ends a running try with this outcome; refused where it doesn't run, or could not end so.
+    /// Ends a running try with `outcome`. `Stranger` where there is no such try, `NotEnabled` where it doesn't run or
+    /// can't end so, `OutOfMemory` at want of memory; `Err` changes nothing.
     fn end(&mut self, name: JobName, outcome: Outcome) -> Result<(), Illegal>
         ensures ok { OnOk result (MayCome self.old.backfill (Event.End name outcome)
             × (self.new ≡ moved_on self.old (Event.End name outcome))) }
@@ -210,8 +211,9 @@ impl<'a> Scheduler<'a> {
         }
     }
 
-    /// Ends the try of an answer with its grade. Refused is what `apply` refuses, for its cause, and as a stranger an
-    /// answer to a running try that was given something else; the answer is handed back then.
+    /// Ends a running try with the grade of its answer. `Err` hands the answer back and changes nothing: `Stranger`
+    /// where there is no such try or it was given something else, `NotEnabled` where it doesn't run, `OutOfMemory` at
+    /// want of memory.
     pub fn finish(&mut self, done: Done) -> Result<(), (Done, Illegal)>
         ensures ok { OnOk result (HasFinished self.old done self.new) }
         ensures back { IfErr result (λ f. f.0 ≡ done) }
@@ -229,15 +231,19 @@ impl<'a> Scheduler<'a> {
         }
     }
 
-    /// Ends the try of an answer that may end so: only memory can be wanting.
+    /// Ends the try of an answer, where that try runs and was given the same. `Err`, at want of memory, changes
+    /// nothing.
     pub fn finish_allowed(&mut self, done: Done) -> Result<(), OutOfMemory>
         requires { MayFinish self.old.backfill done }
         ensures ok { OnOk result (HasFinished self.old done self.new) }
         ensures same { OnErr result (self.new ≡ self.old) }
     {
-        match self.finish(done) {
+        let core = self.ready.core();
+        let _replayed = core.journal();
+        let outcome = grade(self.alloc, core.plan(), done.name().task, done.raw())?;
+        match self.end(done.name(), outcome) {
             Ok(()) => Ok(()),
-            Err((_, Illegal::OutOfMemory)) => Err(OutOfMemory),
+            Err(Illegal::OutOfMemory) => Err(OutOfMemory),
             Err(_) => unreachable!(),
         }
     }
@@ -257,7 +263,7 @@ impl<'a> Scheduler<'a> {
         self.ready.journal()
     }
 
-    /// What the backfill came to, where it has ended; else the scheduler is handed back.
+    /// Answers what the backfill came to. `Err` hands the scheduler back as it was, where a run isn't closed.
     pub fn into_ended(self) -> Result<Ended<'a>, Scheduler<'a>>
         ensures ok { IfOk result (λ ended. ended ≡ ending_of self.entry.backfill ended.run_states) }
         ensures closed { OnOk result (HasEnded self.entry.backfill.state) }

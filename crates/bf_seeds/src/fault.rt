@@ -7,20 +7,22 @@ use bf_value::{OutOfMemory, Text};
 use std::error::Error;
 use std::fmt;
 
-/// Why no seeds are read: the file as a whole, or the earliest line that is refused, and why.
+/// Why a seeds file is refused: the file as a whole, or its first bad line.
 #[derive(Debug, Drop)]
 pub enum SeedsFault {
-    /// A file that is too long, or isn't UTF-8.
+    /// The file has more than 8,388,608 bytes, or isn't UTF-8.
     BadFile,
-    /// A line of another form, which is this one.
+    /// This line is neither `RUN TASK` nor `RUN TASK INDEX`.
     BadSeed(Text),
-    /// A line with a task or a run that is unknown.
+    /// A line names a task that the plan lacks, or a run that is the start of no data interval.
     Unknown(ClearFault),
+    /// Memory ran out.
     OutOfMemory,
 }
 
 impl SeedsFault {
-    /// The number of the refusal (docs/FORMATS.md), 45 for the file and a line's form; None for want of memory.
+    /// The number of the refusal in docs/FORMATS.md: 45 for a bad file or a line of another form, that of the fault
+    /// within for an unknown task or run. None for want of memory.
     pub fn refusal_number(&self) -> Option<u32>
         ensures { result ≡ refusal_number_of self.now }
     {
@@ -38,7 +40,7 @@ impl fmt::Display for SeedsFault {
 
     ghost output = { λ fault. Some (fault_text fault) };
 
-    /// Writes the words of the fault.
+    /// Writes the text of the fault, such as `bad seed: LINE`.
     fn fmt<W: fmt::Write>(&self, f: &mut fmt::Formatter<W>) -> fmt::Result {
         match self {
             SeedsFault::BadFile => write!(f, "bad seed: file"),

@@ -9,11 +9,12 @@ use bf_interval::Interval;
 use bf_plan::Plan;
 use std::alloc::Global;
 
-/// How many bytes a seeds file may have.
+/// How many bytes a seeds file may have, 8 MiB.
 pub const LONGEST_FILE: usize = 8_388_608;
 
-/// The seeds that the bytes of a seeds file name, in order. `BadFile` for a file that is too long or isn't UTF-8, and
-/// else the fault of the first bad line, as of `seeds_in`.
+/// The seeds that the bytes of a seeds file name, in order. `BadFile` where it has more than 8,388,608 bytes or isn't
+/// UTF-8; for the first bad line `BadSeed` where it has another form, or `Unknown` where the plan lacks its task or its
+/// run is the start of no data interval. `OutOfMemory` where memory ran out.
 pub fn read_seeds(
     alloc: Global,
     plan: &Plan,

@@ -8,7 +8,7 @@ use crate::index::index_in;
 use bf_moment::moment_in;
 use jiff::Timestamp;
 
-/// The words of a line, and what they mean.
+/// What a line of a seeds file says: the start of a run, the id of a task, and a map index, None for all instances.
 #[derive(Clone, Copy)]
 pub(crate) struct Words<'a> {
     pub run: Timestamp,
@@ -16,14 +16,14 @@ pub(crate) struct Words<'a> {
     pub index: Option<i32>,
 }
 
-/// What is before the first space of a text, and what after it; None where there is no space.
+/// What stands before the first space of a text and what stands after it; None where it has no space.
 fn split_at_space(text: &str) -> Option<(&str, &str)>
     ensures { option_map (λ p. (p.0.now, p.1.now)) result ≡ split_at_space_of text.now }
 {
     text.split_once(' ')
 }
 
-/// The task that a text `TASK` or `TASK INDEX` names, and its map index, None for all instances; None for any other
+/// The task that a text `TASK` or `TASK INDEX` names, with the map index, None where it has none. None for any other
 /// text.
 fn task_in(text: &str) -> Option<(&str, Option<i32>)>
     ensures found { IfSome result

@@ -14,14 +14,14 @@ use bf_value::{OutOfMemory, Text};
 use std::alloc::{AllocError, Global};
 use std::slice;
 
-/// The lines of a text that aren't empty.
+/// The lines of a text that aren't empty, without their ends.
 fn lines_of(alloc: Global, text: &str) -> Result<Vec<&str>, AllocError>
     ensures { IfOk result (λ found. map (λ line. line.now) found.items ≡ lines_in text.now) }
 {
     text.lines().filter(|line| !line.is_empty()).collect(alloc)
 }
 
-/// The fault of a line of another form, `BadSeed`, or `OutOfMemory` where there is none for a copy of the line.
+/// The fault `BadSeed` with this line; `OutOfMemory` where there is no memory for a copy of it.
 fn bad_seed(alloc: Global, line: &str) -> SeedsFault
     ensures { (result ≡ TheVariants.BadSeed line.now) ⊎ (result ≡ TheVariants.OutOfMemory) }
 {
@@ -31,7 +31,8 @@ fn bad_seed(alloc: Global, line: &str) -> SeedsFault
     }
 }
 
-/// The fault `Unknown` of a seed whose task the plan doesn't have, or whose run is over none of these data intervals.
+/// Refuses a seed with `Unknown` where the plan lacks its task, or its run is the start of none of these data
+/// intervals.
 fn refuse_unknown(plan: &Plan, intervals: &[Interval], seed: &Seed) -> Result<(), SeedsFault>
     ensures ok { OnOk result (seed_fault plan.now.dag intervals.now (seed.now ∷ []) ≡ None) }
     ensures err { IfErr result (IsFaultOfSeed plan.now.dag intervals.now seed.now) }
@@ -42,7 +43,8 @@ fn refuse_unknown(plan: &Plan, intervals: &[Interval], seed: &Seed) -> Result<()
     }
 }
 
-/// The seed that a line names; `BadSeed` for a line of another form, `Unknown` for a task or run that isn't known.
+/// The seed that a line names. `BadSeed` where the line has another form, `Unknown` where the plan lacks its task or
+/// its run is the start of no data interval, `OutOfMemory` where memory ran out.
 fn seed_in_line(
     alloc: Global,
     plan: &Plan,
@@ -67,7 +69,7 @@ fn seed_in_line(
     }
 }
 
-/// Adds a seed at the end.
+/// Adds a seed at the end of `seeds`.
 fn add_seed(seeds: &mut Vec<Seed>, seed: Seed) -> Result<(), OutOfMemory>
     ensures { OnOk result (seeds.new.items ≡ seeds.old.items ++ seed ∷ []) }
 {
@@ -75,7 +77,8 @@ fn add_seed(seeds: &mut Vec<Seed>, seed: Seed) -> Result<(), OutOfMemory>
     Ok(())
 }
 
-/// The seeds that these lines name, in order, or the fault of the first bad line.
+/// The seeds that these lines name, in order. For the first bad line `BadSeed` where it has another form, or `Unknown`
+/// where the plan lacks its task or its run is the start of no data interval; `OutOfMemory` where memory ran out.
 fn seeds_of(
     alloc: Global,
     plan: &Plan,
@@ -97,8 +100,9 @@ fn seeds_of(
     Ok(seeds)
 }
 
-/// The seeds that the lines of a text name, in order, but for empty lines; or the fault of the first bad line:
-/// `BadSeed` for another form, `Unknown` for a task that isn't known, or else a run.
+/// The seeds that the lines of a text name, in order; empty lines are skipped. For the first bad line `BadSeed` where
+/// it has another form, or `Unknown` where the plan lacks its task or its run is the start of no data interval;
+/// `OutOfMemory` where memory ran out.
 pub fn seeds_in(
     alloc: Global,
     plan: &Plan,

@@ -4,7 +4,7 @@ ghost use Rattle.bf_show.specs.Pieces.{key_word, key_text};
 
 use bf_value::OutOfMemory;
 
-/// The name of a member behind the first.
+/// The members of a line's JSON object that come after the first, `run`.
 #[derive(Clone, Copy, Debug, PartialEq, Eq)]
 pub(crate) enum Key {
     End,
@@ -19,7 +19,7 @@ pub(crate) enum Key {
 }
 
 impl Key {
-    /// The name of a member, as lines of JSON have it.
+    /// The member's name, as lines of JSON have it.
     fn word(self) -> &'static str
         ensures { result.now ≡ key_word self }
     {
@@ -37,7 +37,7 @@ impl Key {
     }
 }
 
-/// Adds what is before the value of a member: a comma, its name in quotes and a colon.
+/// Adds what stands before the value of a member: a comma, its name in quotes and a colon.
 pub(crate) fn push_key(text: &mut String, key: Key) -> Result<(), OutOfMemory>
     ensures { OnOk result (string_bytes text.new ≡ string_bytes text.old ++ key_text key) }
 {

@@ -9,7 +9,8 @@ ghost use Rattle.bf_report.specs.declared.report.InstanceReport.{InstanceReport}
 ghost use Rattle.bf_report.specs.declared.report.RunReport.{RunReport};
 ghost use Rattle.bf_show.specs.JsonLines.{instance_members, untried_members};
 
-/// The line of an instance of an expanded task is read as JSON with just its members, in their order.
+/// A law: the line of an expanded task's sound instance is read as JSON with just its members, in order, where it nests
+/// no deeper than JSON is read.
 pub fn instances_are_read_back()
     ensures { (run : RunReport) (id : List ℕ) (index : ℕ) (instance : InstanceReport) → index
         < 2 ^ 64
@@ -19,7 +20,7 @@ pub fn instances_are_read_back()
         ≡ Some (outline (object (instance_members run id (unsigned index) instance))) }
 {}
 
-/// The line of a task that was decided without a try is read as JSON with just its members.
+/// A law: the line of a task that didn't run is read as JSON with just its members, in order.
 pub fn untried_tasks_are_read_back()
     ensures { (run : RunReport) (id state : List ℕ)
         → document (compact_text (object (untried_members run id state)))

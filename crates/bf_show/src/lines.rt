@@ -16,7 +16,7 @@ use bf_value::{OutOfMemory, Text};
 use bf_xcom::RunState;
 use std::alloc::Global;
 
-/// Adds a moment as a string of JSON, in its quotes.
+/// Adds a moment in UTC as a JSON string, in its quotes.
 fn push_moment(alloc: Global, text: &mut String, moment: Moment) -> Result<(), OutOfMemory>
     ensures { OnOk result (string_bytes text.new
         ≡ string_bytes text.old ++ quoted (moment_text moment.at.nanosecond)) }
@@ -25,7 +25,7 @@ fn push_moment(alloc: Global, text: &mut String, moment: Moment) -> Result<(), O
     push_string(alloc, text, word.as_str())
 }
 
-/// The word for the state of a run, as a string of JSON, in its quotes.
+/// The word for the state of a run as a JSON string, in its quotes.
 fn run_state_string(state: RunState) -> &'static str
     ensures { result.now ≡ quoted (run_state_word_of state) }
 {
@@ -35,7 +35,7 @@ fn run_state_string(state: RunState) -> &'static str
     }
 }
 
-/// What each line of a run begins with: an open object of JSON with its data interval and its state.
+/// What each line of a run begins with: an open JSON object with the run's data interval and state.
 fn line_start_of(alloc: Global, run: &RunReport) -> Result<String, OutOfMemory>
     ensures { IfOk result (λ text. string_bytes text ≡ run_start run.now) }
 {
@@ -57,7 +57,8 @@ struct RunLines<'a> {
 }
 
 impl RunLines<'_> {
-    /// Adds the beginning of a task's line: the run's part and the task's id. The object stays open.
+    /// Adds the beginning of a line of the run: what each of its lines begins with, and the task's id. The JSON object
+    /// stays open.
     fn push_start(&self, alloc: Global, text: &mut String, id: &str) -> Result<(), OutOfMemory>
         ensures { OnOk result (string_bytes text.new
             ≡ string_bytes text.old ++ (run_start self.now.run.now
@@ -68,7 +69,7 @@ impl RunLines<'_> {
         push_string(alloc, text, id)
     }
 
-    /// Adds the line of a task without a try, with its line feed. `state` is a string of JSON in its quotes.
+    /// Adds the line of a task that didn't run, with its line feed. `state` is a JSON string, in its quotes.
     fn push_untried(
         &self,
         alloc: Global,
@@ -86,7 +87,8 @@ impl RunLines<'_> {
         Ok(())
     }
 
-    /// Adds the line of a task that isn't expanded, with its line feed, by its one instance, whose index is -1.
+    /// Adds the line of a task that isn't expanded, with its line feed: that of its one instance, with -1 as its map
+    /// index.
     fn push_unmapped(
         &self,
         alloc: Global,
@@ -103,7 +105,7 @@ impl RunLines<'_> {
         push_ended(alloc, text, instance)
     }
 
-    /// Adds the line of an instance of an expanded task, with its line feed. `index` is its map index, from 0.
+    /// Adds the line of an expanded task's instance, with its line feed. `index` is its map index, from 0.
     fn push_instance(
         &self,
         alloc: Global,
@@ -121,7 +123,7 @@ impl RunLines<'_> {
         push_ended(alloc, text, instance)
     }
 
-    /// Adds a line for each instance of an expanded task, by map index.
+    /// Adds the line of each instance of an expanded task, by map index, with its line feed.
     fn push_mapped(
         &self,
         alloc: Global,
@@ -138,7 +140,7 @@ impl RunLines<'_> {
         Ok(())
     }
 
-    /// Adds the lines of a task in the run: one for each instance, and one where it has no try.
+    /// Adds the lines of a task in the run: one for each instance where it ran, else one for its state.
     fn push_task(
         &self,
         alloc: Global,
@@ -162,7 +164,7 @@ impl RunLines<'_> {
         }
     }
 
-    /// Adds the lines of the tasks of the run, whose ids are `ids` in the same order.
+    /// Adds the lines of the run's tasks, in order. `ids` are the ids of `tasks`, in the same order.
     fn push_tasks(
         &self,
         alloc: Global,
@@ -180,7 +182,8 @@ impl RunLines<'_> {
     }
 }
 
-/// Adds the lines of a run, one for each task instance. `ids` are those of its tasks, in order.
+/// Adds the lines of a run, one for each task instance and for each task that didn't run. `ids` are the ids of its
+/// tasks, in order.
 fn push_run(
     alloc: Global,
     text: &mut String,
@@ -195,7 +198,8 @@ fn push_run(
     lines.push_tasks(alloc, text, ids, run.tasks.as_slice())
 }
 
-/// Adds the lines of these runs, one for each task instance. `ids` are those of the tasks, in order.
+/// Adds the lines of these runs, in order, one for each task instance and for each task that didn't run. `ids` are the
+/// ids of their tasks, in order.
 fn push_runs(
     alloc: Global,
     text: &mut String,
@@ -211,7 +215,8 @@ fn push_runs(
     Ok(())
 }
 
-/// The lines of a report, an object of JSON for each task instance, each with a line feed.
+/// A report as lines of JSON: an object for each task instance and for each task that didn't run, each with a line
+/// feed.
 pub(crate) fn text_of_json_lines(alloc: Global, report: &Report) -> Result<String, OutOfMemory>
     ensures { IfOk result (λ text. string_bytes text ≡ json_lines report.now) }
 {

@@ -14,7 +14,7 @@ use bf_value::{OutOfMemory, Text, Xval, text_of};
 use bf_xcom::Outcome;
 use std::alloc::Global;
 
-/// Adds a text as a string of JSON, in its quotes.
+/// Adds a text as a JSON string, in its quotes.
 pub fn push_string(alloc: Global, text: &mut String, word: &str) -> Result<(), OutOfMemory>
     ensures { OnOk result (string_bytes text.new ≡ string_bytes text.old ++ quoted word.now) }
 {
@@ -23,7 +23,7 @@ pub fn push_string(alloc: Global, text: &mut String, word: &str) -> Result<(), O
     Ok(())
 }
 
-/// The word for how an instance ended, as a string of JSON, in its quotes.
+/// The word for how an instance ended as a JSON string, in its quotes.
 fn state_string(outcome: &Outcome) -> &'static str
     ensures { result.now ≡ quoted (state_word outcome.now) }
 {
@@ -34,7 +34,7 @@ fn state_string(outcome: &Outcome) -> &'static str
     }
 }
 
-/// Adds the member `key` with a value, a comma before it; nothing where the value is None.
+/// Adds the member `key` with this value, after a comma; adds nothing where the value is None.
 fn push_value(
     alloc: Global,
     text: &mut String,
@@ -53,7 +53,7 @@ fn push_value(
     Ok(())
 }
 
-/// Adds the member of a pull: the id of the task pulled from, and what was pulled, null for nothing.
+/// Adds the member of a pull: the id of the task pulled from, and the value, or null where there was none.
 fn push_pull(alloc: Global, text: &mut String, pull: &Pull) -> Result<(), OutOfMemory>
     ensures { OnOk result (string_bytes text.new ≡ string_bytes text.old
         ++ (quoted pull.now.task ++ 58 ∷ compact_text (pulled_data pull.now.value))) }
@@ -67,7 +67,7 @@ fn push_pull(alloc: Global, text: &mut String, pull: &Pull) -> Result<(), OutOfM
     Ok(())
 }
 
-/// Adds the members of the pulls behind the first, a comma before each, and the brace that ends them.
+/// Adds the members of the pulls after the first, each after a comma, and the brace that closes their object.
 fn push_further(alloc: Global, text: &mut String, pulls: &[Pull]) -> Result<(), OutOfMemory>
     ensures { OnOk result (string_bytes text.new
         ≡ string_bytes text.old ++ members_text true (pull_members pulls.now)) }
@@ -80,8 +80,7 @@ fn push_further(alloc: Global, text: &mut String, pulls: &[Pull]) -> Result<(), 
     Ok(())
 }
 
-/// Adds the member of what an instance pulled, where it pulled from some task, and the brace and line feed that end
-/// its line.
+/// Adds the member `pulls` where an instance has pulls, and ends its line with a brace and a line feed.
 fn push_pulls(alloc: Global, text: &mut String, pulls: &[Pull]) -> Result<(), OutOfMemory>
     ensures { OnOk result (string_bytes text.new ≡ string_bytes text.old
         ++ line_end (pulls_members pulls.now)) }
@@ -98,7 +97,8 @@ fn push_pulls(alloc: Global, text: &mut String, pulls: &[Pull]) -> Result<(), Ou
     Ok(())
 }
 
-/// Adds how an instance ended, its tries, and what it pushed and was given, and ends its line with a line feed.
+/// Adds how an instance ended, its tries, the value that it pushed and what it was given, and ends its line with a
+/// brace and a line feed.
 pub(crate) fn push_ended(
     alloc: Global,
     text: &mut String,

@@ -8,8 +8,9 @@ use bf_device::{Cause, Write, WriteFault, send};
 use bf_report::Report;
 use std::alloc::Global;
 
-/// Writes a report as lines of JSON. The whole text is made first, so want of memory is known before the first byte
-/// goes out. It gives up where a write fails or takes nothing, and at the 1,001st interruption.
+/// Writes a report as lines of JSON, an object for each task instance and for each task that didn't run. `Err` tells
+/// how many bytes went out: none where memory ran out, since the whole text is made first; else those before a write
+/// failed or took nothing, or before the 1,001st interruption.
 pub fn write_json_lines<W: Write>(
     alloc: Global,
     report: &Report,

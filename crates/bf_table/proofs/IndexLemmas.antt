@@ -31,6 +31,18 @@ pub two_groups : (get : Pattern → Option ℕ) (ones others : List Pattern) →
 two_groups get [] others = refl
 two_groups get (key ∷ keys) others = earlier_assoc (get key) (first_of_keys get keys) (first_of_keys get others) ∙ ap (earlier_place_of (get key)) (two_groups get keys others)
 
+-- what is found for the same keys again
+earlier_same : (a : Option ℕ) → a ≡ earlier_place_of a a
+earlier_same None = refl
+earlier_same (Some n) = ap Some (omega arith)
+
+pub key_again : (get : Pattern → Option ℕ) (one other : Pattern) → one ≡ other → get one ≡ first_of_keys get (one ∷ other ∷ [])
+key_again get one other same = earlier_same (get one) ∙ ap (λ k. earlier_place_of (get one) (get k)) same ∙ two_keys get one other
+
+pub group_again : (get : Pattern → Option ℕ) (ones others : List Pattern) → ones ≡ others → first_of_keys get ones ≡ first_of_keys get (ones ++ others)
+group_again get ones others same =
+    earlier_same (first_of_keys get ones) ∙ ap (λ ks. earlier_place_of (first_of_keys get ones) (first_of_keys get ks)) same ∙ two_groups get ones others
+
 -- ---- each pattern's first entry
 
 pub pattern_cmp_total : IsTotalOrder pattern_cmp

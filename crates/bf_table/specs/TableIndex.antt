@@ -1,5 +1,6 @@
 -- Which entry of a table comes first of those that name the same.
-use Rattle.std.specs.Prelude.{◌≡◌, ℕ, ◌==◌, Bool, false, if◌then◌else◌, List, length, position, Option, Some, None, option_map, option_and_then}
+use Rattle.std.specs.Prelude.{◌≡◌, ℕ, ◌==◌, Bool, false, if◌then◌else◌, List, length, position, Option, Some, None, is_some, option_map, option_and_then}
+use Rattle.std.specs.List.{list_any}
 use Rattle.std.specs.declared.cmp.Ordering.{Ordering}
 use Rattle.std.specs.Ordering.{nat_cmp, int_cmp, then_cmp, on, is_eq}
 use Rattle.std.specs.Option.{option_cmp}
@@ -7,7 +8,9 @@ use Rattle.std.specs.Cmp.Lexicographic.{slice_cmp}
 use Rattle.std.specs.Str.{bytes_eq}
 use Rattle.std.specs.BTreeMap as tree
 use Rattle.bf_table.specs.declared.table.TableEntry.{TableEntry}
+use Rattle.bf_table.specs.declared.table_index.NamedParts.{NamedParts}
 use Rattle.bf_table.specs.declared.table_index.Pattern.{Pattern}
+use Rattle.bf_table.specs.declared.table_index.TableIndex.{TableIndex}
 
 -- the order of patterns: by task, date, index and try number
 abbrev pub pattern_cmp : Pattern → Pattern → Ordering
@@ -45,6 +48,20 @@ abbrev pub first_of_key : List (List ℕ) → List TableEntry → Pattern → Op
 first_of_key ids entries key = position (λ e. is_pattern key (pattern_in ids e)) entries
 
 -- each pattern has its first entry
-abbrev pub IsIndexOf : List (List ℕ) → List TableEntry → tree.BTreeMap Pattern ℕ → Type 0
-IsIndexOf ids entries firsts =
+abbrev pub AreFirstsOf : List (List ℕ) → List TableEntry → tree.BTreeMap Pattern ℕ → Type 0
+AreFirstsOf ids entries firsts =
     (key : Pattern) → tree.get pattern_cmp firsts key ≡ first_of_key ids entries key
+
+-- which parts any of the entries names
+abbrev pub parts_named_in : List TableEntry → NamedParts
+parts_named_in entries =
+    record {
+      run = list_any (λ e. is_some e.run) entries;
+      index = list_any (λ e. is_some e.index) entries;
+      attempt = list_any (λ e. is_some e.attempt) entries;
+    }
+
+-- the index has each pattern's first entry, and which parts the entries name
+abbrev pub IsIndexOf : List (List ℕ) → List TableEntry → TableIndex → Type 0
+IsIndexOf ids entries index =
+    AreFirstsOf ids entries index.firsts × (index.named ≡ parts_named_in entries)

@@ -1,7 +1,8 @@
 //! Which entry of a table comes first of those that name the same.
-ghost use Rattle.std.specs.Prelude.{◌≡◌, ◌≤◌, ◌<◌, None, Some, IfOk};
+ghost use Rattle.std.specs.Prelude.{◌≡◌, ◌≤◌, ◌<◌, None, Some, IfOk, is_some};
+ghost use Rattle.std.specs.List.{list_any};
 ghost use Rattle.std.specs.BTreeMap as tree;
-ghost use Rattle.bf_table.specs.TableIndex.{date_named, number_named, pattern_cmp, pattern_in, IsIndexOf};
+ghost use Rattle.bf_table.specs.TableIndex.{date_named, number_named, pattern_cmp, pattern_in, parts_named_in, AreFirstsOf, IsIndexOf};
 ghost use Rattle.bf_table.specs.inner.TableIndex.{keys_with_date, keys_with_index, keys_with_task, earlier_place_of, first_of_keys, keys_of, pattern_of_try};
 
 use crate::table::TableEntry;
@@ -19,23 +20,72 @@ pub(crate) struct Pattern {
     attempt: Option<i64>,
 }
 
-impl Pattern {
-    /// The pattern of an entry that names all of a try: its task by number, its run by the 20 bytes of the logical
-    /// date, its map index and its number.
-    pub(crate) fn of_try(task: u32, date: [u8; 20], name: JobName) -> Pattern
-        ensures { result ≡ pattern_of_try task date name }
+/// Which parts of a try any entry of a table names, beside its task.
+#[derive(Clone, Copy, Debug, PartialEq, Eq)]
+pub(crate) struct NamedParts {
+    run: bool,
+    index: bool,
+    attempt: bool,
+}
+
+/// Whether any of these entries names a run.
+fn any_names_run(entries: &[TableEntry]) -> bool
+    ensures { result ≡ list_any (λ e. is_some e.run) entries.now }
+{
+    entries.iter().any(|entry| entry.run.is_some())
+}
+
+/// Whether any of these entries names a map index.
+fn any_names_index(entries: &[TableEntry]) -> bool
+    ensures { result ≡ list_any (λ e. is_some e.index) entries.now }
+{
+    entries.iter().any(|entry| entry.index.is_some())
+}
+
+/// Whether any of these entries names a try number.
+fn any_names_attempt(entries: &[TableEntry]) -> bool
+    ensures { result ≡ list_any (λ e. is_some e.attempt) entries.now }
+{
+    entries.iter().any(|entry| entry.attempt.is_some())
+}
+
+impl NamedParts {
+    /// The parts that these entries name.
+    fn of(entries: &[TableEntry]) -> NamedParts
+        ensures { result ≡ parts_named_in entries.now }
     {
-        Pattern {
-            task: Some(task),
-            date: Some(date),
-            index: Some(i64::from(name.index)),
-            attempt: Some(i64::from(name.attempt)),
+        NamedParts {
+            run: any_names_run(entries),
+            index: any_names_index(entries),
+            attempt: any_names_attempt(entries),
         }
     }
 }
 
-/// The number of the first entry with a pattern.
-pub(crate) type Firsts = BTreeMap<Pattern, usize>;
+impl Pattern {
+    /// What an entry can name of a try: its task by number, and of the 20 bytes of its run's logical date, its map index
+    /// and its number those parts that any entry names.
+    fn of_try(named: NamedParts, date: [u8; 20], name: JobName) -> Pattern
+        ensures { result ≡ pattern_of_try named date name }
+    {
+        Pattern {
+            task: Some(name.task),
+            date: named.run.then_some(date),
+            index: named.index.then_some(i64::from(name.index)),
+            attempt: named.attempt.then_some(i64::from(name.attempt)),
+        }
+    }
+}
+
+/// For each pattern the place, from 0, of the first entry that has it.
+type Firsts = BTreeMap<Pattern, usize>;
+
+/// Finds the first entry of a table that answers for a try.
+#[derive(Drop)]
+pub(crate) struct TableIndex {
+    firsts: Firsts,
+    named: NamedParts,
+}
 
 /// The number of the task that an entry names, `Some(None)` where it names none;
 /// `None` where the graph has no such task.
@@ -76,12 +126,8 @@ fn pattern_of(graph: &Graph, entry: &TableEntry) -> Option<Pattern>
 
 /// For each pattern the place, from 0, of the first entry that has it. Entries without a pattern, which answer for no
 /// try of the graph, are left out.
-pub(crate) fn firsts_of(
-    alloc: Global,
-    graph: &Graph,
-    entries: &[TableEntry],
-) -> Result<Firsts, OutOfMemory>
-    ensures { IfOk result (IsIndexOf graph.now.ids entries.now) }
+fn firsts_of(alloc: Global, graph: &Graph, entries: &[TableEntry]) -> Result<Firsts, OutOfMemory>
+    ensures { IfOk result (AreFirstsOf graph.now.ids entries.now) }
 {
     let mut firsts = BTreeMap::new(alloc);
     let mut number = entries.len();
@@ -114,7 +160,7 @@ fn first_with_pattern(firsts: &Firsts, pattern: Pattern) -> Option<usize>
 
 /// The place, from 0, of the first entry that names just this task, run (by `date`) and index, each unnamed where
 /// None, and the try number of `asked` or none. None where there is no such entry.
-#[tactic(auto, using(crate::proofs::IndexLemmas::two_keys))]
+#[tactic(auto, using(crate::proofs::IndexLemmas::two_keys, crate::proofs::IndexLemmas::key_again))]
 fn first_with_index(
     firsts: &Firsts,
     asked: Pattern,
@@ -131,19 +177,20 @@ fn first_with_index(
         index,
         attempt: None,
     };
+    let first = first_with_pattern(firsts, any);
+    if asked.attempt.is_none() {
+        return first;
+    }
     let same = Pattern {
         attempt: asked.attempt,
         ..any
     };
-    earlier_place(
-        first_with_pattern(firsts, any),
-        first_with_pattern(firsts, same),
-    )
+    earlier_place(first, first_with_pattern(firsts, same))
 }
 
 /// The place, from 0, of the first entry that names just this task and run (by `date`), each unnamed where None, and
 /// the index of `asked` or none, and so its try number. None where there is no such entry.
-#[tactic(auto, using(crate::proofs::IndexLemmas::two_groups))]
+#[tactic(auto, using(crate::proofs::IndexLemmas::two_groups, crate::proofs::IndexLemmas::group_again))]
 fn first_with_date(
     firsts: &Firsts,
     asked: Pattern,
@@ -154,28 +201,59 @@ fn first_with_date(
         (keys_with_date asked task date) }
 {
     let any = first_with_index(firsts, asked, task, date, None);
+    if asked.index.is_none() {
+        return any;
+    }
     let same = first_with_index(firsts, asked, task, date, asked.index);
     earlier_place(any, same)
 }
 
 /// The place, from 0, of the first entry that names just this task, unnamed where None, and the run of `asked` or
 /// none, and so its index and its try number. None where there is no such entry.
-#[tactic(auto, using(crate::proofs::IndexLemmas::two_groups))]
+#[tactic(auto, using(crate::proofs::IndexLemmas::two_groups, crate::proofs::IndexLemmas::group_again))]
 fn first_with_task(firsts: &Firsts, asked: Pattern, task: Option<u32>) -> Option<usize>
     ensures { result ≡ first_of_keys (tree.get pattern_cmp firsts.now)
         (keys_with_task asked task) }
 {
     let any = first_with_date(firsts, asked, task, None);
+    if asked.date.is_none() {
+        return any;
+    }
     let same = first_with_date(firsts, asked, task, asked.date);
     earlier_place(any, same)
 }
 
-/// The place, from 0, of the first entry that answers for the try with the pattern `asked`: of each part it names
-/// either that or nothing. None where there is no such entry.
-pub(crate) fn first_for_try(firsts: &Firsts, asked: Pattern) -> Option<usize>
+/// The place, from 0, of the first entry of which each part is that of `asked` or names nothing. None where there is no
+/// such entry.
+fn first_for_pattern(firsts: &Firsts, asked: Pattern) -> Option<usize>
     ensures { result ≡ first_of_keys (tree.get pattern_cmp firsts.now) (keys_of asked) }
 {
     let any = first_with_task(firsts, asked, None);
     let same = first_with_task(firsts, asked, asked.task);
     earlier_place(any, same)
+}
+
+impl TableIndex {
+    /// The index of these entries, which name tasks of the graph by their ids.
+    pub(crate) fn of(
+        alloc: Global,
+        graph: &Graph,
+        entries: &[TableEntry],
+    ) -> Result<TableIndex, OutOfMemory>
+        ensures { IfOk result (IsIndexOf graph.now.ids entries.now) }
+    {
+        Ok(TableIndex {
+            firsts: firsts_of(alloc, graph, entries)?,
+            named: NamedParts::of(entries),
+        })
+    }
+
+    /// The place, from 0, of the first entry that answers for a try in a run of this logical date; None where no entry
+    /// does.
+    pub(crate) fn first_for_try(&self, date: [u8; 20], name: JobName) -> Option<usize>
+        ensures { result ≡ first_of_keys (tree.get pattern_cmp self.now.firsts)
+            (keys_of (pattern_of_try self.now.named date name)) }
+    {
+        first_for_pattern(&self.firsts, Pattern::of_try(self.named, date, name))
+    }
 }

@@ -16,31 +16,31 @@ use bf_value::{Sequence, Text, last_line};
 use serde_json::{Map, Value};
 use std::alloc::Global;
 
-/// How many bytes a table may have.
+/// The most bytes that a table file may have.
 pub const LONGEST_TABLE: usize = 8_388_608;
 
-/// Whether an entry of a table may have this key.
+/// Answers whether an entry of a table may have this key.
 fn is_key(name: &str) -> bool
     ensures { result ≡ is_key_in name.now }
 {
     matches!(name, "task" | "index" | "run" | "try" | "status" | "out")
 }
 
-/// Whether an entry of a table may have all these keys.
+/// Answers whether an entry of a table may have all these keys.
 fn are_keys(members: &Map<String, Value>) -> bool
     ensures { result ≡ list_all (λ name. is_key_in (string_bytes name)) (keys members.now) }
 {
     members.keys().all(|name| is_key(name.as_str()))
 }
 
-/// Whether an object has only the keys of an entry.
+/// Answers whether an object has only keys that an entry of a table may have.
 fn has_known_keys(members: &Map<String, Value>) -> bool
     ensures { result ≡ has_known_keys_in (members_view members.now.entries) }
 {
     are_keys(members)
 }
 
-/// Whether a value is an object with only the keys of an entry.
+/// Answers whether a value is an object that has only keys that an entry of a table may have.
 fn is_entry(value: &Value) -> bool
     ensures { result ≡ is_entry_in (view value.now) }
 {
@@ -50,7 +50,7 @@ fn is_entry(value: &Value) -> bool
     }
 }
 
-/// Refuses what is no object or has a key that no entry has. `number` is that of the entry, for the fault.
+/// Checks that a value is an object with only the keys of an entry; else `BadTable`, for the entry `number`.
 fn refuse_other_object(number: u32, value: &Value) -> Result<(), TableFault>
     ensures { Reads (Some number) (λ u. u) result
         (if is_entry_in (view value.now) then Some tt else None) }
@@ -62,22 +62,22 @@ fn refuse_other_object(number: u32, value: &Value) -> Result<(), TableFault>
     }
 }
 
-/// The text that a value is, or else the entry is bad. `number` is that of the entry, for the fault.
+/// Gives the text that a value is; `BadTable`, for the entry `number`, where it is none.
 fn text_at<'a>(number: u32, value: &'a Value) -> Result<&'a str, TableFault>
     ensures { Reads (Some number) (λ t. t.now) result (as_str (view value.entry.now)) }
 {
     value.as_str().ok_or(TableFault::BadTable(Some(number)))
 }
 
-/// The whole number that a value is, or else the entry is bad. `number` is that of the entry, for the fault.
+/// Gives the whole number that a value is; `BadTable`, for the entry `number`, where it is none.
 fn number_at(number: u32, value: &Value) -> Result<i64, TableFault>
     ensures { Reads (Some number) (λ n. n) result (number_of (view value.now)) }
 {
     value.as_i64().ok_or(TableFault::BadTable(Some(number)))
 }
 
-/// The task that an entry names, None where it names none; the entry is bad where the value is no text. `number` is
-/// that of the entry, for the fault.
+/// Gives the task id that an entry names; None where the key is missing. `BadTable`, for the entry `number`, where the
+/// value is no text; `OutOfMemory` at want of memory.
 fn task_if_named(
     alloc: Global,
     number: u32,
@@ -93,8 +93,8 @@ fn task_if_named(
     Ok(Some(Text::copy_of(alloc, text)?))
 }
 
-/// The index or the try that an entry names, None where it names none; the entry is bad where the value is no whole
-/// number. `number` is that of the entry, for the fault.
+/// Gives the map index or the try number that an entry names; None where the key is missing. `BadTable`, for the entry
+/// `number`, where the value is no whole number.
 fn number_if_named(number: u32, value: Option<&Value>) -> Result<Option<i64>, TableFault>
     ensures { Reads (Some number) (λ n. n) result
         (if_there number_of (option_map (λ v. view v.now) value.entry)) }
@@ -105,8 +105,8 @@ fn number_if_named(number: u32, value: Option<&Value>) -> Result<Option<i64>, Ta
     Ok(Some(number_at(number, value)?))
 }
 
-/// The moment that a value is, as `2024-01-31T06:05:09Z`, or else the entry is bad. `number` is that of the entry,
-/// for the fault.
+/// Gives the moment that a value spells, in the form `2024-01-31T06:05:09Z`; `BadTable`, for the entry `number`, for
+/// any other value.
 fn date_at<'a>(number: u32, value: &'a Value) -> Result<&'a str, TableFault>
     ensures { Reads (Some number) (λ t. t.now) result (date_in (view value.entry.now)) }
 {
@@ -118,8 +118,8 @@ fn date_at<'a>(number: u32, value: &'a Value) -> Result<&'a str, TableFault>
     }
 }
 
-/// The moment of the run that an entry names, None where it names none; the entry is bad where the value is no
-/// moment. `number` is that of the entry, for the fault.
+/// Gives the moment of the run that an entry names; None where the key is missing. `BadTable`, for the entry `number`,
+/// where the value is no moment; `OutOfMemory` at want of memory.
 fn run_if_named(
     alloc: Global,
     number: u32,
@@ -135,8 +135,8 @@ fn run_if_named(
     Ok(Some(Text::copy_of(alloc, date)?))
 }
 
-/// The last line of an entry's output, empty where it has none; the entry is bad where the output is no text.
-/// `number` is that of the entry, for the fault.
+/// Gives the last line of an entry's output; empty where the key is missing. `BadTable`, for the entry `number`, where
+/// the value is no text; `OutOfMemory` at want of memory.
 fn line_at(alloc: Global, number: u32, value: Option<&Value>) -> Result<Sequence<u8>, TableFault>
     ensures { Reads (Some number) (λ line. line) result
         (line_in (option_map (λ v. view v.now) value.entry)) }
@@ -148,8 +148,8 @@ fn line_at(alloc: Global, number: u32, value: Option<&Value>) -> Result<Sequence
     Ok(copy_of_bytes(alloc, last_line(out.as_bytes()))?)
 }
 
-/// The exit status of an entry, 0 where it names none; the entry is bad where that is no whole number from 0 to 255.
-/// `number` is that of the entry, for the fault.
+/// Gives an entry's exit status; 0 where the key is missing. `BadTable`, for the entry `number`, where the value is no
+/// whole number from 0 to 255.
 fn status_at(number: u32, value: Option<&Value>) -> Result<u8, TableFault>
     ensures { Reads (Some number) (λ n. n) result
         (status_in (option_map (λ v. view v.now) value.entry)) }
@@ -163,7 +163,8 @@ fn status_at(number: u32, value: Option<&Value>) -> Result<u8, TableFault>
     }
 }
 
-/// The entry that a value of the table is. `number` is its place in the table, from 0, for the fault.
+/// Reads one entry of a table; `number` is its place, from 0. `BadTable(number)` where it is bad, `OutOfMemory` at want
+/// of memory.
 #[tactic(auto, unfolding(crate::specs::Tables::entry_of))]
 fn entry_at(alloc: Global, number: u32, value: &Value) -> Result<TableEntry, TableFault>
     ensures { Reads (Some number) (λ e. e) result (entry_of (view value.now)) }
@@ -185,7 +186,7 @@ fn entry_at(alloc: Global, number: u32, value: &Value) -> Result<TableEntry, Tab
     })
 }
 
-/// The entries of a table, in order, or the fault of the first bad one.
+/// Reads the entries of a table, in order; `BadTable` for the first bad one, `OutOfMemory` at want of memory.
 fn entries_in(alloc: Global, items: &[Value]) -> Result<Vec<TableEntry>, TableFault>
     requires { length items.now < 2 ^ 32 }
     ensures { Gives (λ v. v.items) result (entries_from 0 (entries_of (items_view items.now))) }
@@ -197,7 +198,8 @@ fn entries_in(alloc: Global, items: &[Value]) -> Result<Vec<TableEntry>, TableFa
     Ok(entries)
 }
 
-/// The JSON of a table file; a fault where that has more than `LONGEST_TABLE` bytes, or is no JSON.
+/// Parses the bytes of a table file; `BadTable(None)` where they are more than `LONGEST_TABLE` or no JSON,
+/// `OutOfMemory` at want of memory.
 #[tactic(auto, unfolding(crate::specs::Tables::json_of_file))]
 fn json_of(alloc: Global, bytes: &[u8]) -> Result<Value, TableFault>
     ensures { Reads None (λ v. view v) result (json_of_file bytes.now) }
@@ -216,7 +218,8 @@ fn json_of(alloc: Global, bytes: &[u8]) -> Result<Value, TableFault>
     }
 }
 
-/// The entries of a table, in order; a fault where it is no list, or for the first bad entry.
+/// Reads the entries of a table, in order; `BadTable(None)` where the value is no list, `BadTable` for the first bad
+/// entry, `OutOfMemory` at want of memory.
 fn entries_of_json(alloc: Global, json: &Value) -> Result<Vec<TableEntry>, TableFault>
     requires { ForSome (as_array (view json.now)) (λ items. items_len items < 2 ^ 32) }
     ensures { Gives (λ v. v.items) result (table_with (as_array (view json.now))) }
@@ -227,8 +230,8 @@ fn entries_of_json(alloc: Global, json: &Value) -> Result<Vec<TableEntry>, Table
     }
 }
 
-/// The entries of the bytes of a table file, in order; a fault where they are too many bytes or no JSON list, or for
-/// the first bad entry. No file is read.
+/// Reads the entries of a table from its file's bytes, in order; `BadTable(None)` where these are too many or no JSON
+/// list, `BadTable` for the first bad entry, `OutOfMemory` at want of memory.
 #[tactic(auto, unfolding(crate::specs::Tables::table_in))]
 pub(crate) fn entries_of_file(alloc: Global, bytes: &[u8]) -> Result<Vec<TableEntry>, TableFault>
     ensures { Gives (λ v. v.items) result (table_in bytes.now) }

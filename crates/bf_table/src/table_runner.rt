@@ -2,15 +2,14 @@
 ghost use Rattle.std.specs.Prelude.{◌≡◌, [], All, IfOk, find, option_and_then, option_copied, slice_get, slice_index_or, length, IfNone, IfSome};
 ghost use Rattle.std.specs.BTreeMap;
 ghost use Rattle.bf_table.specs.TableIndex.{pattern_cmp, IsIndexOf};
-ghost use Rattle.bf_table.specs.inner.TableIndex.{first_of_keys, keys_of};
-ghost use Rattle.bf_plan.specs.Plans.{task_of};
+ghost use Rattle.bf_table.specs.inner.TableIndex.{first_of_keys, keys_of, pattern_of_try};
+ghost use Rattle.bf_plan.specs.Plans.{shape_of, task_of};
 ghost use Rattle.bf_moment.specs.Moment.{IsShown};
 ghost use Rattle.bf_table.specs.Tables.{answer_of, answers_for_in, dates_in, matches_number_in, matches_text_in, raw_in};
 
 use crate::table::{Table, TableEntry};
-use crate::table_index::{Firsts, Pattern, first_for_try, firsts_of};
+use crate::table_index::TableIndex;
 use bf_failure::{Detail, DetailedRunner};
-use bf_graph::Graph;
 use bf_moment::moment_bytes;
 use bf_plan::Plan;
 use bf_try::{Done, Raw, RunnerFault, TaskRunner, Ticket, copy_of_bytes};
@@ -28,7 +27,7 @@ pub struct TableRunner<'a> {
     plan: &'a Plan,
     /// The logical dates of the runs, as reports spell them.
     dates: Vec<[u8; 20]>,
-    firsts: Firsts,
+    index: TableIndex,
 }
 
 impl<'a> Model for TableRunner<'a> {
@@ -45,7 +44,7 @@ impl<'a> Model for TableRunner<'a> {
 
     ghost view = { λ r. record { dag = r.plan.now.dag; dates = r.dates.items; entries = r.table } };
 
-    ghost invariant = { λ r. IsIndexOf (shape_of r.plan.now.dag).ids r.table r.firsts };
+    ghost invariant = { λ r. IsIndexOf (shape_of r.plan.now.dag).ids r.table r.index };
 }
 
 /// Whether an entry that names `named`, or nothing, answers for what has this text.
@@ -94,40 +93,22 @@ fn find_by_scan<'a>(
         .find(|entry| answers_for(id, date, name, entry))
 }
 
-/// The first entry that answers for the try with the pattern `asked`, found by `firsts`, the index of the table; None
-/// where none does.
+/// The first entry that answers for a try in a run of this date, found by the index of the entries; None where none
+/// does.
 fn find_by_index<'a>(
     entries: &'a [TableEntry],
-    firsts: &Firsts,
-    asked: Pattern,
-) -> Option<&'a TableEntry>
-    ensures { option_copied result
-        ≡ option_and_then (slice_get entries.entry.now)
-        (first_of_keys (BTreeMap.get pattern_cmp firsts.now) (keys_of asked)) }
-{
-    match first_for_try(firsts, asked) {
-        Some(number) => entries.get(number),
-        None => None,
-    }
-}
-
-/// The first entry that answers for a try in a run of this date, of 20 bytes; None where none does. `id` is that of
-/// the try's task, `firsts` the index of the table.
-fn entry_in_run<'a>(
-    entries: &'a [TableEntry],
-    firsts: &Firsts,
-    graph: &Graph,
-    id: &str,
+    index: &TableIndex,
     date: [u8; 20],
     name: JobName,
 ) -> Option<&'a TableEntry>
-    requires index { IsIndexOf graph.now.ids entries.now firsts.now }
-    requires long { length date ≡ 20 }
-    ensures { option_copied result ≡ find (answers_for_in id.now date name) entries.entry.now }
+    ensures { option_copied result
+        ≡ option_and_then (slice_get entries.entry.now)
+        (first_of_keys (BTreeMap.get pattern_cmp index.now.firsts)
+        (keys_of (pattern_of_try index.now.named date name))) }
 {
-    match graph.number_of(id) {
-        Some(task) => find_by_index(entries, firsts, Pattern::of_try(task, date, name)),
-        None => find_by_scan(entries, id.as_bytes(), &date, name),
+    match index.first_for_try(date, name) {
+        Some(place) => entries.get(place),
+        None => None,
     }
 }
 
@@ -155,6 +136,26 @@ fn date_of(dates: &[[u8; 20]], run: u32) -> Option<[u8; 20]>
         }
         None => None,
     }
+}
+
+/// The first entry that answers for a try in a run of this date, of 20 bytes; None where none does.
+fn entry_in_run<'a>(
+    entries: &'a [TableEntry],
+    index: &TableIndex,
+    plan: &Plan,
+    date: [u8; 20],
+    name: JobName,
+) -> Option<&'a TableEntry>
+    requires index { IsIndexOf (shape_of plan.now.dag).ids entries.now index.now }
+    requires long { length date ≡ 20 }
+    ensures { option_copied result
+        ≡ find (answers_for_in (task_of plan.now.dag name.task).id date name) entries.entry.now }
+{
+    let dag = plan.dag();
+    if (name.task as usize) < dag.tasks.len() {
+        return find_by_index(entries, index, date, name);
+    }
+    find_by_scan(entries, id_of(plan, name.task).as_bytes(), &date, name)
 }
 
 /// The logical dates of runs that start at these moments, each of 20 bytes, as `2024-01-31T06:05:09Z`.
@@ -198,13 +199,13 @@ impl<'a> TableRunner<'a> {
             ≡ record { dag = plan.now.dag; dates = dates_in starts.now; entries = table }) }
     {
         let dates = dates_of(alloc, starts)?;
-        let firsts = firsts_of(alloc, plan.graph(), table.as_slice())?;
+        let index = TableIndex::of(alloc, plan.graph(), table.as_slice())?;
         Ok(TableRunner {
             alloc,
             table,
             plan,
             dates,
-            firsts,
+            index,
         })
     }
 
@@ -214,11 +215,10 @@ impl<'a> TableRunner<'a> {
             ≡ find (answers_for_in (task_of self.now.dag name.task).id
             (slice_index_or self.now.dates name.run []) name) self.now.entries }
     {
-        let id = id_of(self.plan, name.task);
         let entries = self.table.as_slice();
         match date_of(self.dates.as_slice(), name.run) {
-            Some(date) => entry_in_run(entries, &self.firsts, self.plan.graph(), id, date, name),
-            None => find_by_scan(entries, id.as_bytes(), &[], name),
+            Some(date) => entry_in_run(entries, &self.index, self.plan, date, name),
+            None => find_by_scan(entries, id_of(self.plan, name.task).as_bytes(), &[], name),
         }
     }
 

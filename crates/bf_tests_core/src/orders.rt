@@ -12,7 +12,7 @@ use std::test::Fail;
 const JOIN: &str = r#"{"dag_id":"d","schedule":"@daily",
     "tasks":[{"id":"x"},{"id":"y"},{"id":"z","upstream":["x","y"]}]}"#;
 
-/// Worked out by hand.
+/// The report of `JOIN` where `x` is skipped and `y` fails, worked out by hand.
 const REPORT: &str = "@backfill 2 d\n\
     @run 1970-01-01T00:00:00Z 1970-01-01T00:00:00Z failed\n\
     x -1 skipped 1 -\n\
@@ -20,7 +20,7 @@ const REPORT: &str = "@backfill 2 d\n\
     z -1 upstream_failed 0 -\n\
     @end 1\n";
 
-/// The report of a backfill over one run.
+/// Makes the report of a backfill that has ended, over the one run at 1970; fails where it has other runs.
 fn report_over_run(alloc: Global, ended: &Ended<'_>) -> Result<Report, Fail> {
     let runs = epoch_run(alloc)?;
     if ended.run_states().len() != runs.count() {
@@ -29,6 +29,8 @@ fn report_over_run(alloc: Global, ended: &Ended<'_>) -> Result<Report, Fail> {
     Ok(report_of(alloc, &runs, ended)?)
 }
 
+/// Takes these steps from the start of the plan's backfill of one run, and makes its report; fails where it hasn't
+/// ended.
 fn report_over(
     rt: &impl Abort,
     alloc: Global,
@@ -40,12 +42,13 @@ fn report_over(
     report_over_run(alloc, &ended)
 }
 
-/// The report after these steps. It tells the whole ledger, by law `reports_tell_ledgers`.
+/// Makes the report of `JOIN` after these steps. It tells the whole ledger, by the law `reports_tell_ledgers`.
 fn report_after(rt: &impl Abort, alloc: Global, steps: &[Answered]) -> Result<Report, Fail> {
     let plan = plan_of(alloc, JOIN)?;
     report_over(rt, alloc, &plan, steps)
 }
 
+/// Checks that the report's text is `REPORT`.
 fn is_written(rt: &impl Abort, alloc: Global, report: &Report) -> Result<(), Fail> {
     let mut out = Memory::new(alloc);
     write_report(alloc, report, &mut out)?;
@@ -53,7 +56,7 @@ fn is_written(rt: &impl Abort, alloc: Global, report: &Report) -> Result<(), Fai
     Ok(())
 }
 
-/// Requires the text of the report after these steps.
+/// Checks that the report of `JOIN` after these steps has the text `REPORT`.
 fn is_reported(rt: &impl Abort, alloc: Global, steps: &[Answered]) -> Result<(), Fail> {
     let report = report_after(rt, alloc, steps)?;
     is_written(rt, alloc, &report)

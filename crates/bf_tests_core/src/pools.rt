@@ -30,7 +30,7 @@ fn a_try_waits_for_room_in_its_pool(rt: HostRuntime) -> Result<(), Fail> {
     walk(&rt, rt.alloc(), NARROW, &STEPS)
 }
 
-/// The number of the pool: those of the file come first.
+/// The number of the pool `p`: the pools that the file names come first.
 const P: u32 = 0;
 
 static BEGINS: [Answered; 3] = [
@@ -41,7 +41,7 @@ static BEGINS: [Answered; 3] = [
 
 static ENDS: [Answered; 1] = [(TestStep::End(0, -1, 1, End::Succeeds), Ok(()))];
 
-/// Requires how many slots of the pool are occupied after these steps.
+/// Takes these steps, and checks how many slots of the pool are then occupied.
 fn are_occupied_after(
     rt: &impl Abort,
     alloc: Global,
@@ -55,7 +55,7 @@ fn are_occupied_after(
     Ok(())
 }
 
-/// Requires how many are occupied while the first try runs, and how many when it has ended.
+/// Checks how many slots are occupied while the first try runs, and after it has ended.
 fn are_occupied_in_turn(rt: &impl Abort, alloc: Global, core: &mut Core<'_>) -> Result<(), Fail> {
     are_occupied_after(rt, alloc, core, &BEGINS, 2)?;
     are_occupied_after(rt, alloc, core, &ENDS, 0)?;
@@ -63,7 +63,8 @@ fn are_occupied_in_turn(rt: &impl Abort, alloc: Global, core: &mut Core<'_>) -> 
     Ok(())
 }
 
-/// The same from the start of a backfill of one run.
+/// Checks, from the start of the plan's backfill of one run, how many slots are occupied while the first try runs, and
+/// after it has ended.
 fn are_occupied_over(rt: &impl Abort, alloc: Global, plan: &Plan) -> Result<(), Fail> {
     let mut core = core_of(alloc, plan)?;
     are_occupied_in_turn(rt, alloc, &mut core)

@@ -4,7 +4,7 @@ use bf_core::Core;
 use bf_plan::Plan;
 use bf_tests_graphs::{job, plan_of};
 use bf_value::{JobName, Xval, is_same_option};
-use bf_xcom::Pulled;
+use bf_xcom::SharedValue;
 use std::alloc::Global;
 use std::process::Abort;
 use std::test::Fail;
@@ -18,7 +18,8 @@ const EXPANDED: &str = r#"{"dag_id":"d","schedule":"@daily","tasks":[{"id":"src"
     {"id":"m","upstream":["src"],"expand":"src"},
     {"id":"sum","upstream":["m"],"command":["echo",{"pull":"m"}]}]}"#;
 
-fn are_same(noted: &[Pulled], pulled: &[Option<Xval>]) -> bool {
+/// Answers whether what the ledger noted is what was pulled, in order.
+fn are_same(noted: &[SharedValue], pulled: &[Option<Xval>]) -> bool {
     noted.len() == pulled.len()
         && noted
             .iter()
@@ -26,7 +27,7 @@ fn are_same(noted: &[Pulled], pulled: &[Option<Xval>]) -> bool {
             .all(|(one, other)| is_same_option(one.get(), other.as_ref()))
 }
 
-/// Requires what the ledger says that a try was given of its task's pulls.
+/// Checks what the ledger says that this try, which has ended, was given of its task's pulls.
 fn is_noted(rt: &impl Abort, core: &Core<'_>, name: JobName, pulled: &[Option<Xval>]) {
     match core.ledger().get(name) {
         Some(entry) => assert!(rt; are_same(entry.given.pulled.as_slice(), pulled)),
@@ -34,6 +35,8 @@ fn is_noted(rt: &impl Abort, core: &Core<'_>, name: JobName, pulled: &[Option<Xv
     }
 }
 
+/// Takes these steps from the start of the plan's backfill of one run, and checks what this try was given of its task's
+/// pulls.
 fn is_given_over(
     rt: &impl Abort,
     alloc: Global,
@@ -47,7 +50,8 @@ fn is_given_over(
     Ok(())
 }
 
-/// Requires what a try was given of its task's pulls by these steps, of which the last ends it.
+/// Takes these steps, the last of which ends the try of this name, from the start of the graph's backfill of one run,
+/// and checks what that try was given of its task's pulls.
 fn is_given(
     rt: &impl Abort,
     alloc: Global,
@@ -60,7 +64,7 @@ fn is_given(
     is_given_over(rt, alloc, &plan, steps, name, pulled)
 }
 
-/// The steps of the graph of two, whose first tasks end so.
+/// Makes the steps of a backfill of `TWO` in which `x` and `y` end so.
 fn ending(x: End, y: End) -> [Answered; 10] {
     [
         (TestStep::Open, Ok(())),

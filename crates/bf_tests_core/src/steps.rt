@@ -4,6 +4,7 @@ use bf_plan::Plan;
 use bf_tests_graphs::{epoch_run, job, plan_of};
 use bf_try::Outcome;
 use bf_value::{OutOfMemory, Values, Xval};
+use bf_xcom::SharedValue;
 use std::alloc::Global;
 use std::process::Abort;
 use std::test::Fail;
@@ -19,8 +20,8 @@ pub enum End {
     Skips,
 }
 
-/// An event. It is settled and expanded by run and task, begun and ended by task, map index and try in the first run, and
-/// closed by run.
+/// An event in short: `Settle` and `Expand` name run and task; `Begin` and `End` name task, map index and try, in the
+/// first run; `Close` names the run, `Tick` the moment.
 #[derive(Clone, Copy)]
 pub enum TestStep {
     Open,
@@ -32,10 +33,10 @@ pub enum TestStep {
     Tick(i64),
 }
 
-/// A step, and the answer of the core.
+/// A step, and what the core must answer to it.
 pub type Answered = (TestStep, Result<(), Illegal>);
 
-/// A list of numbers.
+/// Makes a list of these numbers.
 pub fn list_of(alloc: Global, numbers: &[i64]) -> Result<Xval, OutOfMemory> {
     let mut items = Vec::new(alloc);
     for number in numbers {
@@ -44,16 +45,23 @@ pub fn list_of(alloc: Global, numbers: &[i64]) -> Result<Xval, OutOfMemory> {
     Ok(Xval::List(Values::new(items)))
 }
 
+/// Makes a success that pushed this value.
+fn success_with(alloc: Global, value: Xval) -> Result<Outcome, OutOfMemory> {
+    Ok(Outcome::Success(SharedValue::new(alloc, Some(value))?))
+}
+
+/// Makes the outcome of a try that ends so.
 fn outcome_of(alloc: Global, end: End) -> Result<Outcome, OutOfMemory> {
     match end {
-        End::Succeeds => Ok(Outcome::Success(None)),
-        End::Pushes(number) => Ok(Outcome::Success(Some(Xval::Int(number)))),
-        End::PushesList(numbers) => Ok(Outcome::Success(Some(list_of(alloc, numbers)?))),
+        End::Succeeds => Ok(Outcome::Success(SharedValue::nothing())),
+        End::Pushes(number) => success_with(alloc, Xval::Int(number)),
+        End::PushesList(numbers) => success_with(alloc, list_of(alloc, numbers)?),
         End::Fails => Ok(Outcome::Failed),
         End::Skips => Ok(Outcome::Skipped),
     }
 }
 
+/// Makes the event of a step.
 fn event_of(alloc: Global, step: TestStep) -> Result<Event, OutOfMemory> {
     match step {
         TestStep::Open => Ok(Event::Open),
@@ -69,7 +77,7 @@ fn event_of(alloc: Global, step: TestStep) -> Result<Event, OutOfMemory> {
     }
 }
 
-/// Takes the steps in turn, each of which the core has to answer so.
+/// Lets the steps come to the core in order, and checks what it answers to each.
 pub fn take(
     rt: &impl Abort,
     alloc: Global,
@@ -83,13 +91,13 @@ pub fn take(
     Ok(())
 }
 
-/// The core of a backfill of one run, before its first event.
+/// Makes the core of a plan's backfill of one run, before its first event.
 pub fn core_of<'a>(alloc: Global, plan: &'a Plan) -> Result<Core<'a>, Fail> {
     let runs = epoch_run(alloc)?;
     Ok(Core::new(alloc, plan, &runs)?)
 }
 
-/// The core of a backfill of one run, after these steps.
+/// Makes the core of a plan's backfill of one run, after these steps.
 pub fn core_after<'a>(
     rt: &impl Abort,
     alloc: Global,
@@ -101,12 +109,13 @@ pub fn core_after<'a>(
     Ok(core)
 }
 
+/// Takes these steps from the start of the plan's backfill of one run.
 fn walk_over(rt: &impl Abort, alloc: Global, plan: &Plan, steps: &[Answered]) -> Result<(), Fail> {
     let mut core = core_of(alloc, plan)?;
     take(rt, alloc, &mut core, steps)
 }
 
-/// Takes the steps from the start of a run of a graph.
+/// Takes these steps from the start of a graph's backfill of one run, and checks the answer to each.
 pub fn walk(rt: &impl Abort, alloc: Global, graph: &str, steps: &[Answered]) -> Result<(), Fail> {
     let plan = plan_of(alloc, graph)?;
     walk_over(rt, alloc, &plan, steps)

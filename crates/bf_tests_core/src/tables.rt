@@ -37,7 +37,7 @@ static BAD: [(&str, Option<u32>); 26] = [
     (r#"[{},{},{},{},{},{},{},{},{},{},{"runs":""}]"#, Some(10)),
 ];
 
-/// An empty table with spaces behind it, of so many bytes.
+/// Makes an empty table with so many spaces behind it that it has `length` bytes.
 fn padded(alloc: Global, length: usize) -> Result<Vec<u8>, OutOfMemory> {
     let mut bytes = b"[]".to_vec(alloc)?;
     bytes.resize(length, b' ')?;

@@ -3,15 +3,16 @@ use bf_moment::Moment;
 use bf_plan::{ContextVariable, Word};
 use bf_value::{OutOfMemory, Sequence, Text, Values, Xval};
 use bf_words::{JobContext, words};
-use bf_xcom::{Given, Pulled};
+use bf_xcom::{Given, SharedValue};
 use jiff::Timestamp;
 use std::alloc::Global;
 use std::process::Abort;
 use std::test::Fail;
 
-/// A text of the command, each variable of the context, each pull, and the item.
+/// How many words the command has: a text, each context variable, each of three pulls, and the item.
 const COMMAND: usize = 12;
 
+/// What each word of the command must come to.
 const WORDS: [&str; COMMAND] = [
     "echo \"",
     "1970-01-01T00:00:00Z",
@@ -27,6 +28,7 @@ const WORDS: [&str; COMMAND] = [
     "null",
 ];
 
+/// Makes the command, with this text as its first word.
 fn command(text: Text) -> [Word; COMMAND] {
     [
         Word::Text(text),
@@ -44,15 +46,15 @@ fn command(text: Text) -> [Word; COMMAND] {
     ]
 }
 
-/// A null as the item, and a text, nothing and a list as what is pulled.
+/// Makes what the try is given: null as its item, and a text, nothing and a list as what it pulls.
 fn given(alloc: Global) -> Result<Given, OutOfMemory> {
     let text = Xval::Text(Text::copy_of(alloc, "a\"b")?);
     let list = vec![in alloc; Xval::Int(3), Xval::Nil, Xval::Flag(true)]?;
     let list = Xval::List(Values::new(list));
     let pulled = vec![in alloc;
-        Pulled::new(alloc, Some(text))?,
-        Pulled::new(alloc, None)?,
-        Pulled::new(alloc, Some(list))?,
+        SharedValue::new(alloc, Some(text))?,
+        SharedValue::new(alloc, None)?,
+        SharedValue::new(alloc, Some(list))?,
     ]?;
     Ok(Given {
         item: Some(Xval::Nil),
@@ -60,6 +62,7 @@ fn given(alloc: Global) -> Result<Given, OutOfMemory> {
     })
 }
 
+/// Makes the words of the command for a try at 1970-01-01T00:00:00Z that is given this.
 fn words_given(alloc: Global, given: &Given) -> Result<Vec<String>, OutOfMemory> {
     let context = JobContext {
         data_interval_start: Moment::new(Timestamp::UNIX_EPOCH),
@@ -73,12 +76,13 @@ fn words_given(alloc: Global, given: &Given) -> Result<Vec<String>, OutOfMemory>
     Ok(words(alloc, &command, &context, given)?)
 }
 
-/// The words of the command.
+/// Makes the words of the command for a try that is given `given`.
 fn words_found(alloc: Global) -> Result<Vec<String>, OutOfMemory> {
     let given = given(alloc)?;
     words_given(alloc, &given)
 }
 
+/// Checks that these are the words of `WORDS`.
 fn are_the_words(rt: &impl Abort, found: &[String]) {
     assert_eq!(rt; found.len(), WORDS.len());
     for (word, text) in found.iter().zip(&WORDS) {

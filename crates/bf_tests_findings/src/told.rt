@@ -3,7 +3,7 @@ use bf_findings::findings;
 use std::alloc::Global;
 use std::test::Fail;
 
-/// A graph file, and what is told of it.
+/// Graph files, and the lines of what is wrong with each.
 static TOLD: [(&str, &str); 16] = [
     (
         r#"{"dag_id":"d","schedule":"@daily","tasks":[{"id":"a"}]}"#,

@@ -14,7 +14,7 @@ pub enum PlanFault {
     Check(CheckFault),
 }
 
-/// The plan of a graph file without a zone file.
+/// Makes the plan of a graph file, without a zone file.
 pub fn plan_of(alloc: Global, graph: &str) -> Result<Plan, PlanFault> {
     match read_graph(alloc, graph.as_bytes()) {
         Ok(draft) => match check(alloc, draft, None) {
@@ -25,7 +25,7 @@ pub fn plan_of(alloc: Global, graph: &str) -> Result<Plan, PlanFault> {
     }
 }
 
-/// A try in the first run, with the map index -1 where the task isn't expanded.
+/// Names a try in the first run; `index` is -1 where the task isn't expanded.
 pub fn job(task: u32, index: i32, attempt: u32) -> JobName
     ensures { result ≡ record { run = 0; task = task; index = index; attempt = attempt } }
 {

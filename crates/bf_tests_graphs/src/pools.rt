@@ -6,11 +6,11 @@ use bf_value::OutOfMemory;
 use std::alloc::Global;
 use std::test::Fail;
 
-/// A diamond, whose last task counts once for the first.
+/// A diamond, whose last task counts once, not twice, for the first.
 const DOWNSTREAM: &str = r#"{"dag_id":"d","schedule":"@daily","tasks":[
   {"id":"a"},{"id":"b","upstream":["a"]},{"id":"c","upstream":["a"]},{"id":"d","upstream":["b","c"]}]}"#;
 
-/// The same with the other rules, and weights of which no two sums are alike.
+/// A diamond with the other weight rules, and weights no two sums of which are alike.
 const UPSTREAM: &str = r#"{"dag_id":"d","schedule":"@daily","tasks":[
   {"id":"a","priority_weight":1,"weight_rule":"upstream"},
   {"id":"b","priority_weight":20,"weight_rule":"upstream","upstream":["a"]},
@@ -19,7 +19,7 @@ const UPSTREAM: &str = r#"{"dag_id":"d","schedule":"@daily","tasks":[
   {"id":"e","priority_weight":50000,"weight_rule":"downstream","upstream":["d"]},
   {"id":"f","priority_weight":0,"upstream":["e"]}]}"#;
 
-/// The total weights of the tasks of a plan, in file order.
+/// Gives the total weight of each task of a plan, in file order.
 fn weights_in(alloc: Global, plan: &Plan) -> Result<Vec<u32>, OutOfMemory> {
     let mut weights = Vec::new(alloc);
     for task in 0..plan.dag().tasks.len() {

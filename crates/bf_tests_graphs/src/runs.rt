@@ -8,18 +8,20 @@ use jiff::Timestamp;
 use jiff::tz::TimeZone;
 use std::alloc::Global;
 
-/// The one run of 1970-01-01T00:00:00Z, whose data interval ends where it starts.
+/// Makes the one run at 1970-01-01T00:00:00Z, whose data interval ends where it starts.
 pub fn epoch_run(alloc: Global) -> Result<Runs, IntervalFault> {
     Runs::single_at(alloc, Timestamp::UNIX_EPOCH)
 }
 
+/// Reads the schedule `@daily`.
 fn daily(alloc: Global) -> Result<CronSpec, CronFault>
     ensures { IfOk result IsSaid }
 {
     CronSpec::read(alloc, "@daily")
 }
 
-/// The runs of so many days; none where memory is wanting.
+/// Makes the daily runs of so many days from 1970-01-01 on; None for no days, for more than a backfill may have, and at
+/// want of memory.
 pub fn daily_runs(alloc: Global, days: u32) -> Option<Runs> {
     let Ok(daily) = daily(alloc) else {
         return None;

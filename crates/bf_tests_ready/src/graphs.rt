@@ -4,10 +4,10 @@ use crate::chance::Chance;
 use bf_value::OutOfMemory;
 use std::alloc::Global;
 
-/// How many tasks each graph has: a source of items, a branch, two tasks that are expanded, and others behind them.
+/// How many tasks each graph has: a source of items, a branch, two expanded tasks, and others behind them.
 pub const TASKS: u32 = 9;
 
-/// The rules that a task may have that isn't expanded.
+/// The rules for tasks that aren't expanded.
 const RULES: [&str; 11] = [
     "all_success",
     "all_failed",
@@ -22,10 +22,10 @@ const RULES: [&str; 11] = [
     "always",
 ];
 
-/// The rules of the expanded tasks.
+/// The rules for expanded tasks, which must wait until the upstreams are settled.
 const WAITING_RULES: [&str; 3] = ["all_success", "all_done", "none_failed"];
 
-/// The names of some of the tasks before one, each with a comma before it but the first.
+/// Adds the ids of some of the tasks before this one, chosen by chance, with commas between them.
 fn push_upstreams(text: &mut String, chance: &mut Chance, task: u32) -> Result<(), OutOfMemory> {
     let mut comma = "";
     for upstream in 0..task {
@@ -37,7 +37,8 @@ fn push_upstreams(text: &mut String, chance: &mut Chance, task: u32) -> Result<(
     Ok(())
 }
 
-/// What makes a task this one of the graph: its kind, or the source that it is expanded over, with its upstreams and its rule.
+/// Adds what makes task 0 the source of items, task 1 the branch, tasks 2 and 3 expanded ones, and others tasks behind
+/// them: kind, upstreams, source and rule.
 fn push_kind(text: &mut String, chance: &mut Chance, task: u32) -> Result<(), OutOfMemory> {
     match task {
         0 => Ok(()),
@@ -58,6 +59,7 @@ fn push_kind(text: &mut String, chance: &mut Chance, task: u32) -> Result<(), Ou
     }
 }
 
+/// Adds the object of a task, with its keys chosen by chance.
 fn push_task(text: &mut String, chance: &mut Chance, task: u32) -> Result<(), OutOfMemory> {
     let comma = if task == 0 { "" } else { "," };
     write!(text, "{comma}{{\"id\":\"t{task}\"")?;
@@ -78,7 +80,7 @@ fn push_task(text: &mut String, chance: &mut Chance, task: u32) -> Result<(), Ou
     )?)
 }
 
-/// A graph file.
+/// Makes a graph file by chance.
 pub fn graph_of(alloc: Global, chance: &mut Chance) -> Result<String, OutOfMemory> {
     let runs = 1 + chance.below(3);
     let mut text = format!(in alloc;

@@ -8,6 +8,7 @@ use std::alloc::Global;
 use std::process::Abort;
 use std::test::Fail;
 
+/// Spells a step; empty for None.
 fn told(alloc: Global, step: Option<Event>) -> Result<String, OutOfMemory> {
     match step {
         Some(step) => Ok(format!(in alloc; "{step:?}")?),
@@ -15,7 +16,7 @@ fn told(alloc: Global, step: Option<Event>) -> Result<String, OutOfMemory> {
     }
 }
 
-/// Requires that the next step, the next try and the next moment are those that a look at the whole backfill finds.
+/// Checks that the next step, try and moment are those that a look at the whole backfill finds.
 pub fn compare(rt: &impl Abort, alloc: Global, ready: &Ready<'_>) -> Result<(), Fail> {
     let core = ready.core();
     let plan = core.plan();

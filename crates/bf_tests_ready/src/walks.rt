@@ -8,21 +8,23 @@ use bf_sched::Ready;
 use bf_tests_graphs::{daily_runs, plan_of};
 use bf_try::Outcome;
 use bf_value::{JobName, OutOfMemory, Text, Values, Xval};
+use bf_xcom::SharedValue;
 use std::alloc::Global;
 use std::process::Abort;
 use std::test::Fail;
 
 const RUNS: u32 = 3;
 
-/// Most events of a walk; all end long before.
+/// The most turns of a walk; each ends long before.
 const MOST_EVENTS: u32 = 4_000;
 
+/// Makes a value of the name of the task with this number.
 fn task_name(alloc: Global, task: u32) -> Result<Xval, OutOfMemory> {
     let name = format!(in alloc; "t{task}")?;
     Ok(Xval::Text(Text::copy_of(alloc, name.as_str())?))
 }
 
-/// Up to three names of tasks, which are items, and good for a branch where they are its downstreams.
+/// Makes a list of up to three names of tasks: they serve as items, and, where they are its downstreams, for a branch.
 fn names(alloc: Global, chance: &mut Chance) -> Result<Xval, OutOfMemory> {
     let mut items = Vec::new(alloc);
     for _item in 0..chance.below(4) {
@@ -31,16 +33,23 @@ fn names(alloc: Global, chance: &mut Chance) -> Result<Xval, OutOfMemory> {
     Ok(Xval::List(Values::new(items)))
 }
 
+/// Makes a success that pushed this value.
+fn success_with(alloc: Global, value: Xval) -> Result<Outcome, OutOfMemory> {
+    Ok(Outcome::Success(SharedValue::new(alloc, Some(value))?))
+}
+
+/// Makes an outcome by chance.
 fn outcome(alloc: Global, chance: &mut Chance) -> Result<Outcome, OutOfMemory> {
     match chance.below(8) {
         0 => Ok(Outcome::Skipped),
         1 | 2 => Ok(Outcome::Failed),
-        3 => Ok(Outcome::Success(None)),
-        4 => Ok(Outcome::Success(Some(task_name(alloc, 2 + chance.below(TASKS - 2))?))),
-        _ => Ok(Outcome::Success(Some(names(alloc, chance)?))),
+        3 => Ok(Outcome::Success(SharedValue::nothing())),
+        4 => success_with(alloc, task_name(alloc, 2 + chance.below(TASKS - 2))?),
+        _ => success_with(alloc, names(alloc, chance)?),
     }
 }
 
+/// Makes the name of a try by chance; there may be no such try.
 fn name(chance: &mut Chance) -> JobName {
     JobName {
         run: chance.below(RUNS),
@@ -50,7 +59,7 @@ fn name(chance: &mut Chance) -> JobName {
     }
 }
 
-/// Some event, whether or not it may come.
+/// Makes an event by chance, which the backfill may refuse.
 fn stray(alloc: Global, chance: &mut Chance) -> Result<Event, OutOfMemory> {
     let run = chance.below(RUNS);
     let task = chance.below(TASKS);
@@ -67,7 +76,7 @@ fn stray(alloc: Global, chance: &mut Chance) -> Result<Event, OutOfMemory> {
     }
 }
 
-/// The end of one of the tries that run.
+/// Makes the end of one of the running tries; None where none runs.
 fn end(
     alloc: Global,
     chance: &mut Chance,
@@ -83,7 +92,8 @@ fn end(
     }
 }
 
-/// What comes next: a step, a try, the end of a try, or the moment that is waited for.
+/// Makes the event that comes next: a step, the begin of a try, the end of a running one, or the moment that is waited
+/// for. None where nothing is left to come.
 fn next(
     alloc: Global,
     chance: &mut Chance,
@@ -105,7 +115,7 @@ fn next(
     }
 }
 
-/// Lets an event come if it may, and notes the tries that run.
+/// Lets an event come, and keeps `running` up to date; does nothing where it is refused.
 fn take(
     ready: &mut Ready<'_>,
     running: &mut Vec<JobName>,
@@ -131,7 +141,8 @@ fn take(
     Ok(())
 }
 
-/// Some event, or what comes next; none where nothing is left to come.
+/// Chooses by chance between a stray event and the one that comes next; None where the latter is chosen and nothing is
+/// left to come.
 fn chosen(
     alloc: Global,
     chance: &mut Chance,
@@ -145,7 +156,7 @@ fn chosen(
     }
 }
 
-/// Drives a backfill to its end, and compares before each event.
+/// Drives a backfill to its end by chance, and compares before each event.
 fn drive(
     rt: &impl Abort,
     alloc: Global,
@@ -164,6 +175,7 @@ fn drive(
     Ok(())
 }
 
+/// Drives a plan's backfill of three runs to its end by chance.
 fn walk_over(rt: &impl Abort, alloc: Global, plan: &Plan, chance: &mut Chance) -> Result<(), Fail> {
     let runs = daily_runs(alloc, RUNS).ok_or("there are no such runs")?;
     let core = Core::new(alloc, plan, &runs)?;
@@ -171,6 +183,7 @@ fn walk_over(rt: &impl Abort, alloc: Global, plan: &Plan, chance: &mut Chance) -
     drive(rt, alloc, chance, &mut ready)
 }
 
+/// Drives a graph's backfill of three runs to its end by chance.
 fn walk(rt: &impl Abort, alloc: Global, graph: &str, chance: &mut Chance) -> Result<(), Fail> {
     let plan = plan_of(alloc, graph)?;
     walk_over(rt, alloc, &plan, chance)

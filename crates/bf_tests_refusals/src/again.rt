@@ -13,7 +13,7 @@ use bf_workers::Workers;
 use std::alloc::Global;
 use thiserror::Error;
 
-/// Why a backfill didn't come to its end.
+/// Why a backfill whose requests for memory were refused didn't come to its right end.
 #[derive(Clone, Copy, Debug, PartialEq, Eq, Error)]
 pub enum RefusalFault {
     #[error("a call found no memory twice")]
@@ -26,7 +26,7 @@ pub enum RefusalFault {
     Stopped,
 }
 
-/// What is seen of a backfill.
+/// What can be seen of a backfill from outside, by which a change shows.
 #[derive(Clone, Copy, PartialEq, Eq)]
 struct Seen {
     events: usize,
@@ -35,6 +35,7 @@ struct Seen {
     pending: Option<i64>,
 }
 
+/// Notes what can be seen of a backfill now.
 fn see(scheduler: &Scheduler<'_>) -> Seen {
     Seen {
         events: scheduler.journal().len(),
@@ -44,7 +45,7 @@ fn see(scheduler: &Scheduler<'_>) -> Seen {
     }
 }
 
-/// Whether a backfill is as it was seen.
+/// Checks that a backfill looks as it did `before`; else `Changed`.
 fn is_still(scheduler: &Scheduler<'_>, before: Seen) -> Result<(), RefusalFault> {
     if see(scheduler) == before {
         Ok(())
@@ -53,7 +54,7 @@ fn is_still(scheduler: &Scheduler<'_>, before: Seen) -> Result<(), RefusalFault>
     }
 }
 
-/// The plan of a graph that has no fault.
+/// Makes the plan of a graph, a second time where that finds no memory; `Twice` where the second fails too.
 pub fn plan_again(alloc: Global, graph: GraphCase) -> Result<Plan, RefusalFault> {
     if let Ok(plan) = plan_of(alloc, graph.file()) {
         return Ok(plan);
@@ -61,7 +62,7 @@ pub fn plan_again(alloc: Global, graph: GraphCase) -> Result<Plan, RefusalFault>
     plan_of(alloc, graph.file()).ok().ok_or(RefusalFault::Twice)
 }
 
-/// The runs of so many days.
+/// Makes the runs of so many days, a second time where that finds no memory; `Twice` where the second fails too.
 pub fn runs_again(alloc: Global, days: u32) -> Result<Runs, RefusalFault> {
     if let Some(runs) = daily_runs(alloc, days) {
         return Ok(runs);
@@ -69,12 +70,14 @@ pub fn runs_again(alloc: Global, days: u32) -> Result<Runs, RefusalFault> {
     daily_runs(alloc, days).ok_or(RefusalFault::Twice)
 }
 
-/// The scheduler of a backfill by one worker.
+/// Makes the scheduler of a backfill by one worker.
 fn scheduler<'a>(alloc: Global, plan: &'a Plan, runs: &Runs) -> Result<Scheduler<'a>, OutOfMemory> {
     let core = Core::new(alloc, plan, runs)?;
     Scheduler::new(alloc, core, Workers::one())
 }
 
+/// Makes the scheduler of a backfill by one worker, a second time where that finds no memory; `Twice` where the second
+/// fails too.
 pub fn scheduler_again<'a>(
     alloc: Global,
     plan: &'a Plan,
@@ -86,7 +89,8 @@ pub fn scheduler_again<'a>(
     scheduler(alloc, plan, runs).ok().ok_or(RefusalFault::Twice)
 }
 
-/// What comes next.
+/// Gives what comes next, and asks a second time where the scheduler found no memory. `Changed` where the refused call
+/// changed the backfill, `Twice` where the second fails too.
 pub fn next_again(scheduler: &mut Scheduler<'_>) -> Result<Next, RefusalFault> {
     let before = see(scheduler);
     if let Ok(next) = scheduler.next() {
@@ -96,7 +100,8 @@ pub fn next_again(scheduler: &mut Scheduler<'_>) -> Result<Next, RefusalFault> {
     scheduler.next().ok().ok_or(RefusalFault::Twice)
 }
 
-/// Lets the clock come to a moment.
+/// Lets the clock come to a moment and gives what the scheduler answers, a second time where that finds no memory.
+/// `Changed` where the refused call changed the backfill, `Twice` where the second fails too.
 pub fn tick_again(scheduler: &mut Scheduler<'_>, moment: i64) -> Result<bool, RefusalFault> {
     let before = see(scheduler);
     if let Ok(came) = scheduler.tick(moment) {
@@ -106,7 +111,8 @@ pub fn tick_again(scheduler: &mut Scheduler<'_>, moment: i64) -> Result<bool, Re
     scheduler.tick(moment).ok().ok_or(RefusalFault::Twice)
 }
 
-/// Whether an event that was refused may come again: memory was wanting, and the backfill is as it was seen.
+/// Checks that a refused event may be repeated. `Stopped` where it was refused for another cause than want of memory,
+/// `Changed` where the backfill doesn't look as it did `before`.
 fn may_come_again(
     scheduler: &Scheduler<'_>,
     before: Seen,
@@ -119,7 +125,8 @@ fn may_come_again(
     }
 }
 
-/// Ends a try.
+/// Ends a try, a second time where that finds no memory. `Stopped` where it is refused for another cause, `Changed`
+/// where the refused call changed the backfill, `Twice` where the second fails too.
 pub fn finish_again(scheduler: &mut Scheduler<'_>, done: Done) -> Result<(), RefusalFault> {
     let before = see(scheduler);
     let Err((done, fault)) = scheduler.finish(done) else {
@@ -129,7 +136,7 @@ pub fn finish_again(scheduler: &mut Scheduler<'_>, done: Done) -> Result<(), Ref
     scheduler.finish(done).ok().ok_or(RefusalFault::Twice)
 }
 
-/// The answer of a try.
+/// Makes the answer of a try, a second time where that finds no memory; `Twice` where the second fails too.
 pub fn raw_again(alloc: Global, graph: GraphCase, name: JobName) -> Result<Raw, RefusalFault> {
     if let Ok(raw) = graph.raw(alloc, name) {
         return Ok(raw);

@@ -11,10 +11,10 @@ use bf_sched::{Next, Scheduler};
 use bf_try::Ticket;
 use std::alloc::Global;
 
-/// Most turns of the backfill; it ends long before.
+/// The most turns that a backfill may take before it counts as stuck; each ends long before.
 const MOST_TURNS: u32 = 1_000;
 
-/// Makes a try that has begun.
+/// Answers a try that has begun, as the graph says, and ends it.
 fn make_try(
     alloc: Global,
     graph: GraphCase,
@@ -25,7 +25,8 @@ fn make_try(
     finish_again(scheduler, ticket.answer(raw))
 }
 
-/// One more event. False where the backfill has ended.
+/// Lets one more event come, and answers true; false where the backfill has ended. `Stopped` where it waits for a try
+/// that nothing runs.
 fn turn(
     alloc: Global,
     graph: GraphCase,
@@ -43,6 +44,7 @@ fn turn(
     }
 }
 
+/// Lets events come until the backfill has ended; `Stopped` where `MOST_TURNS` don't suffice.
 fn all_turns(
     alloc: Global,
     graph: GraphCase,
@@ -56,7 +58,7 @@ fn all_turns(
     Err(RefusalFault::Stopped)
 }
 
-/// The end of the backfill of a plan.
+/// Runs the backfill of a plan over these runs to its end.
 fn ended_of<'p>(
     alloc: Global,
     graph: GraphCase,
@@ -68,7 +70,7 @@ fn ended_of<'p>(
     scheduler.into_ended().ok().ok_or(RefusalFault::Stopped)
 }
 
-/// The end of the backfill of a plan over so many days, whose journal comes again.
+/// Runs the backfill of a plan over so many days to its end, and then replays its journal on new cores.
 pub fn backfill<'p>(
     alloc: Global,
     graph: GraphCase,

@@ -3,12 +3,12 @@ use bf_try::Raw;
 use bf_value::{JobName, OutOfMemory, Sequence};
 use std::alloc::Global;
 
-/// A graph, with what each of its tries answers.
+/// A graph, with what its tries answer.
 #[derive(Clone, Copy, Debug, PartialEq, Eq)]
 pub enum GraphCase {
-    /// A retry that waits, a past, an expansion, a pool and an early rule.
+    /// Has a retry that waits, a dependence on the past, an expansion, a pool and a rule that decides early.
     Delayed,
-    /// A task that is expanded over a list, and one over what its instances pushed, of which one fails.
+    /// Has a task expanded over a list, of whose instances one fails, and a task expanded over what those pushed.
     Expanded,
 }
 
@@ -25,7 +25,7 @@ const EXPANDED: &str = r#"{"dag_id":"d","schedule":"@daily","tasks":[
     {"id":"n","upstream":["m"],"expand":"m","rule":"all_done"}]}"#;
 
 impl GraphCase {
-    /// Its file.
+    /// Gives the graph file.
     pub fn file(self) -> &'static str {
         match self {
             GraphCase::Delayed => DELAYED,
@@ -33,7 +33,7 @@ impl GraphCase {
         }
     }
 
-    /// The exit status of a try, and the last line that it prints.
+    /// Gives the exit status of a try, and the last line that it prints.
     fn answer(self, name: JobName) -> (i32, &'static str) {
         match (self, name.task, name.index, name.attempt) {
             (GraphCase::Delayed, 0, _, 1) | (GraphCase::Delayed, 1, 1, _) => (1, ""),
@@ -46,7 +46,7 @@ impl GraphCase {
         }
     }
 
-    /// What a try answers.
+    /// Gives the raw answer of a try.
     pub fn raw(self, alloc: Global, name: JobName) -> Result<Raw, OutOfMemory> {
         let (status, line) = self.answer(name);
         let line = line.as_bytes().to_vec(alloc)?;

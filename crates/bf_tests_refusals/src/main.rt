@@ -18,7 +18,7 @@ use bf_plan::Plan;
 use std::alloc::Global;
 use std::process::ExitCode;
 
-/// Prints the events of the backfill of a plan over so many days, and says whether all were.
+/// Prints the events of a plan's backfill over so many days; false where a line couldn't be printed.
 fn tell_over(
     rt: &HostRuntime,
     alloc: Global,
@@ -30,7 +30,7 @@ fn tell_over(
     Ok(show(rt, ended.journal()))
 }
 
-/// The same of a graph.
+/// Prints the events of a graph's backfill over so many days; false where a line couldn't be printed.
 fn tell_of(
     rt: &HostRuntime,
     alloc: Global,
@@ -41,7 +41,7 @@ fn tell_of(
     tell_over(rt, alloc, graph, &plan, days)
 }
 
-/// The same of both.
+/// Prints the events of both graphs' backfills; false where a line couldn't be printed.
 fn tell(rt: &HostRuntime) -> Result<bool, RefusalFault> {
     Ok(
         tell_of(rt, rt.alloc(), GraphCase::Delayed, 2)?

@@ -6,6 +6,7 @@ use bf_interval::Runs;
 use bf_plan::Plan;
 use std::alloc::Global;
 
+/// Makes a core before its first event, a second time where that finds no memory; `Twice` where the second fails too.
 fn core_again<'a>(alloc: Global, plan: &'a Plan, runs: &Runs) -> Result<Core<'a>, RefusalFault> {
     if let Ok(core) = Core::new(alloc, plan, runs) {
         return Ok(core);
@@ -13,6 +14,7 @@ fn core_again<'a>(alloc: Global, plan: &'a Plan, runs: &Runs) -> Result<Core<'a>
     Core::new(alloc, plan, runs).ok().ok_or(RefusalFault::Twice)
 }
 
+/// Copies an event, a second time where that finds no memory; `Twice` where the second fails too.
 fn copy_again(alloc: Global, event: &Event) -> Result<Event, RefusalFault> {
     if let Ok(event) = event.copy(alloc) {
         return Ok(event);
@@ -20,22 +22,23 @@ fn copy_again(alloc: Global, event: &Event) -> Result<Event, RefusalFault> {
     event.copy(alloc).ok().ok_or(RefusalFault::Twice)
 }
 
-/// A journal, and two cores on its way.
+/// A journal, and two cores to which its events come, `behind` after `core`.
 #[derive(Drop)]
 struct Cores<'a, 'b> {
     journal: &'b [Event],
     core: &'b mut Core<'a>,
-    /// It is an event behind while the core takes one.
+    /// One event behind while `core` takes one, so that it shows how that looked before.
     behind: &'b mut Core<'a>,
 }
 
 impl<'a, 'b> Cores<'a, 'b> {
+    /// Answers whether both cores look the same.
     fn are_level(&self) -> bool {
         is_same_core(self.core, self.behind, self.journal)
     }
 
-    /// Lets an event come to the core. Where memory is wanting, nothing of it has changed, and it takes the event when that
-    /// comes again.
+    /// Lets an event come to `core`, a second time where that finds no memory. `Changed` where the refused call changed
+    /// the core, `Twice` where the second fails too, `Stopped` where the event is refused for another cause.
     fn apply(&mut self, alloc: Global, event: &Event) -> Result<(), RefusalFault> {
         match self.core.apply(copy_again(alloc, event)?) {
             Ok(()) => Ok(()),
@@ -52,6 +55,7 @@ impl<'a, 'b> Cores<'a, 'b> {
         }
     }
 
+    /// Lets an event come to `behind`, a second time where it is refused; `Twice` where the second is refused too.
     fn catch_up(&mut self, alloc: Global, event: &Event) -> Result<(), RefusalFault> {
         if self.behind.apply(copy_again(alloc, event)?).is_ok() {
             return Ok(());
@@ -62,7 +66,8 @@ impl<'a, 'b> Cores<'a, 'b> {
             .ok_or(RefusalFault::Twice)
     }
 
-    /// Lets an event come to both. Between them it is seen.
+    /// Lets an event come to both cores. `Unseen` where `core` looks as before it, `Changed` where both differ after
+    /// it.
     fn step(&mut self, alloc: Global, event: &Event) -> Result<(), RefusalFault> {
         self.apply(alloc, event)?;
         if self.are_level() {
@@ -76,7 +81,7 @@ impl<'a, 'b> Cores<'a, 'b> {
         }
     }
 
-    /// Lets each event of the journal come, up to the end of the backfill.
+    /// Lets each event of the journal come to both cores; `Stopped` where the backfill hasn't ended then.
     fn replay(&mut self, alloc: Global) -> Result<(), RefusalFault> {
         for event in self.journal {
             self.step(alloc, event)?;
@@ -89,7 +94,7 @@ impl<'a, 'b> Cores<'a, 'b> {
     }
 }
 
-/// Lets each event of a journal come to a core that has taken none, and to another.
+/// Lets each event of a journal come to `core`, which has taken none, and to a second core beside it.
 fn replay_to<'a>(
     alloc: Global,
     plan: &'a Plan,
@@ -106,7 +111,7 @@ fn replay_to<'a>(
     cores.replay(alloc)
 }
 
-/// Lets each event of a journal come, up to the end of the backfill.
+/// Lets each event of a journal come to two new cores; `Stopped` where the backfill hasn't ended then.
 pub fn replay(
     alloc: Global,
     plan: &Plan,

@@ -38,6 +38,7 @@ fn is_same_cell(one: Option<&Cell>, other: Option<&Cell>) -> bool {
     }
 }
 
+/// Answers whether two cores of one plan have the same cell of each task in each run.
 fn are_same_cells(one: &Core<'_>, other: &Core<'_>) -> bool {
     let tasks = one.plan().dag().tasks.len() as u32;
     (0..one.run_count()).all(|run| (0..tasks).all(|task| is_same_cell(
@@ -79,7 +80,7 @@ fn is_same_entry(one: Option<&Entry>, other: Option<&Entry>) -> bool {
     }
 }
 
-/// Whether both ledgers hold the same of each try that ends in a journal.
+/// Answers whether both ledgers hold the same of each try that ends in this journal.
 fn are_same_entries(one: &Core<'_>, other: &Core<'_>, journal: &[Event]) -> bool {
     journal.iter().all(|event| match event {
         Event::End(name, _) => { is_same_entry(one.ledger().get(*name), other.ledger().get(*name)) }
@@ -87,7 +88,8 @@ fn are_same_entries(one: &Core<'_>, other: &Core<'_>, journal: &[Event]) -> bool
     })
 }
 
-/// Whether two cores of one plan, both on the way of a journal, have the same state and the same events behind them.
+/// Answers whether two cores of one plan have the same state, the same events behind them, and the same in their
+/// ledgers of each try that ends in this journal.
 pub fn is_same_core(one: &Core<'_>, other: &Core<'_>, journal: &[Event]) -> bool {
     one.opened_runs() == other.opened_runs()
         && one.is_ended() == other.is_ended()

@@ -11,6 +11,7 @@ fn word(outcome: &Outcome) -> &'static str {
     }
 }
 
+/// Prints one event on a line of its own.
 fn show_event(rt: &HostRuntime, event: &Event) -> io::Result<()> {
     match event {
         Event::Open => println!(rt; "open"),
@@ -33,7 +34,7 @@ fn show_event(rt: &HostRuntime, event: &Event) -> io::Result<()> {
     }
 }
 
-/// Prints events, and says whether all were.
+/// Prints events, a line each, up to the first that can't be printed; false where there is one.
 pub fn show(rt: &HostRuntime, events: &[Event]) -> bool {
     events.iter().all(|event| show_event(rt, event).is_ok())
 }

@@ -10,7 +10,7 @@ use std::io;
 use std::process::Abort;
 use std::test::Fail;
 
-/// Why a device gives up after so many bytes.
+/// Gives the answer of a write to a device that gave up after so many bytes.
 const fn halted_after(sent: u64) -> Result<(), WriteFault> {
     Err(WriteFault {
         sent,
@@ -18,24 +18,26 @@ const fn halted_after(sent: u64) -> Result<(), WriteFault> {
     })
 }
 
-/// The answer of a write, and what was written.
+/// What a write answered, and the bytes that went out.
 type Written = (Result<(), WriteFault>, Vec<u8>);
 
-/// Requires this answer of a write, and that these bytes were written.
+/// Checks what a write answered, and which bytes went out.
 fn has_written(rt: &impl Abort, found: Written, wanted: Result<(), WriteFault>, bytes: &[u8]) {
     let (answer, written) = found;
     assert_eq!(rt; answer, wanted);
     assert_eq!(rt; written.as_slice(), bytes);
 }
 
-/// Writes a report to a device that takes one byte a call and halts at some.
+/// Writes a report to a device that takes one byte a call, and whose calls from `first` on, `times` of them and counted
+/// from 0, give `halt`.
 fn write_halting(alloc: Global, report: &Report, halt: Halt, first: usize, times: u64) -> Written {
     let mut out = Halting::new(Memory::new(alloc), halt, first as u64, times);
     let answer = write_report(alloc, report, &mut out);
     (answer, out.into_inner().into_vec())
 }
 
-/// Reads a report from a device that gives one byte a call and halts at some. Gives the fault.
+/// Reads a report from a device that gives one byte a call, and whose calls from `first` on, `times` of them and
+/// counted from 0, give `halt`. Gives the fault; None where the report was read.
 fn read_halting(
     alloc: Global,
     text: &str,
@@ -117,7 +119,8 @@ fn an_earlier_bad_line_comes_before_a_read_that_fails(rt: HostRuntime) -> Result
 /// What a program prints: two lines, of which the last has no line feed.
 const OUTPUT: &str = "one\ntwo";
 
-/// Reads an output from a device that gives one byte a call and halts at some. Gives its last line.
+/// Gives the last line of `OUTPUT`, read from a device that gives one byte a call, and whose calls from `first` on,
+/// `times` of them and counted from 0, give `halt`.
 fn line_halting(alloc: Global, halt: Halt, first: usize, times: u64) -> Result<Line, Fail> {
     let bytes = Bytes::new(OUTPUT.as_bytes().to_vec(alloc)?);
     let mut device = Halting::new(bytes, halt, first as u64, times);
@@ -147,7 +150,7 @@ fn a_thousand_interruptions_of_an_output_are_nothing(rt: HostRuntime) -> Result<
     Ok(())
 }
 
-/// An error that is raised so often before anything is given or taken.
+/// An error that the first `left` calls raise.
 #[derive(Clone, Copy)]
 struct Errors {
     kind: io::ErrorKind,
@@ -155,6 +158,7 @@ struct Errors {
 }
 
 impl Errors {
+    /// Raises the error where some are left; else does nothing.
     fn raise(&mut self) -> io::Result<()> {
         if self.left == 0 {
             return Ok(());
@@ -196,7 +200,8 @@ impl io::Write for RaisingWriter {
     }
 }
 
-/// Errors, and whether a call goes on after them: an interruption is no failure, but the 1,001st is one too many.
+/// Errors, how many of them are raised, and whether a call goes on after them: an interruption is no failure, but the
+/// 1,001st is one too many.
 static ERRORS: [(io::ErrorKind, u32, bool); 8] = [
     (io::ErrorKind::Interrupted, 0, true),
     (io::ErrorKind::Interrupted, 1, true),
@@ -208,6 +213,7 @@ static ERRORS: [(io::ErrorKind, u32, bool); 8] = [
     (io::ErrorKind::Other, 1, false),
 ];
 
+/// Reads a report from a reader that raises errors. Gives the fault; None where the report was read.
 fn read_raising(alloc: Global, errors: Errors) -> Option<ReportFault> {
     let mut device = Input::new(RaisingReader {
         errors,

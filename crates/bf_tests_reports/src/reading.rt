@@ -7,7 +7,8 @@ use std::alloc::Global;
 use std::process::Abort;
 use std::test::Fail;
 
-/// Texts whose last line may not stand where it stands, and the number of that line. A bar is a line feed.
+/// Texts whose last line may not stand where it does, and that line's number, from 1. `spelled_out` says what the
+/// letters and bars in them stand for.
 const BAD: &str = r#"| => 1
 @backfill 3 d| => 1
 @backfill 02 d| => 1
@@ -104,8 +105,8 @@ V|a -1 success 1 -|@pull b 1|@pull b 2| => 5
 V|a -1 success 1 -|@pull b 1|@pull c 2|@pull b -| => 6
 V|a -1 success 1 -|@pull b 1|S|@pull b 1| => 6"#;
 
-/// A text in which `R` stands for a head and a run, `V` for the same in version 2, `S` for a later run, and a bar for a
-/// line feed.
+/// Gives the text with `R` replaced by a head and a run, `V` by the same in version 2, `S` by a later run's line, and a
+/// bar by a line feed.
 fn spelled_out(alloc: Global, text: &str) -> Result<Vec<u8>, OutOfMemory> {
     let mut bytes = Vec::new(alloc);
     for byte in text.as_bytes() {
@@ -121,13 +122,13 @@ fn spelled_out(alloc: Global, text: &str) -> Result<Vec<u8>, OutOfMemory> {
     Ok(bytes)
 }
 
-/// Why bytes are no report.
+/// Gives why these bytes are no report; None where they are one.
 fn fault_of(alloc: Global, bytes: &[u8]) -> Result<Option<ReportFault>, Fail> {
     let mut device = Bytes::new(bytes.to_vec(alloc)?);
     Ok(read_report(alloc, &mut device).err())
 }
 
-/// What a text spells out, so many equal bytes, and an end.
+/// Gives what `text` spells out, then `count` times `byte`, then `end`.
 fn lengthened(
     alloc: Global,
     text: &str,
@@ -140,7 +141,7 @@ fn lengthened(
     Ok(bytes)
 }
 
-/// An instance behind whose line a value stands that is a list so deep.
+/// Gives what `text` spells out, then a list nested `depth` deep, and a line feed.
 fn with_deep(alloc: Global, text: &str, depth: usize) -> Result<Vec<u8>, OutOfMemory> {
     let mut bytes = lengthened(alloc, text, (b'[', depth), b"")?;
     bytes.extend_from_slice(vec![in alloc; b']'; depth]?.as_slice())?;
@@ -148,7 +149,7 @@ fn with_deep(alloc: Global, text: &str, depth: usize) -> Result<Vec<u8>, OutOfMe
     Ok(bytes)
 }
 
-/// Requires which line of a row is told, with more behind it.
+/// Checks that reading the text of a row, with more behind it, tells the line that the row says.
 fn line_is_told(rt: &impl Abort, alloc: Global, row: &str) -> Result<(), Fail> {
     let (text, line) = row.split_once(" => ").ok_or("a row has an arrow")?;
     let mut bytes = spelled_out(alloc, text)?;
@@ -228,9 +229,10 @@ fn the_line_of_a_pull_may_be_longer(rt: HostRuntime) -> Result<(), Fail> {
     Ok(())
 }
 
-/// An instance with an item, and one that may pull.
+/// A report up to the item of an instance.
 const ITEM: &str = "V|a 0 success 1 -|@item ";
 
+/// A report up to the value of an instance's pull.
 const PULL: &str = "V|a -1 success 1 -|@pull b ";
 
 #[test]

@@ -72,20 +72,20 @@ const GIVEN: &str = "@backfill 2 d\n\
     @pull src 0\n\
     @end 2\n";
 
-/// The report of a text.
+/// Reads the report of a text.
 pub fn report_of(alloc: Global, text: &str) -> Result<Report, Fail> {
     let mut device = Bytes::new(text.as_bytes().to_vec(alloc)?);
     Ok(read_report(alloc, &mut device)?)
 }
 
-/// The text of a report.
+/// Writes a report, and gives its text.
 fn text_of(alloc: Global, report: &Report) -> Result<Vec<u8>, Fail> {
     let mut out = Memory::new(alloc);
     write_report(alloc, report, &mut out)?;
     Ok(out.into_vec())
 }
 
-/// Reads a report and writes it again.
+/// Reads a report from a text, writes it again, and gives what was written.
 fn written_again(alloc: Global, text: &str) -> Result<Vec<u8>, Fail> {
     let report = report_of(alloc, text)?;
     text_of(alloc, &report)

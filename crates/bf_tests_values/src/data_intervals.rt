@@ -213,11 +213,12 @@ static REFUSED: [(Range, IntervalFault); 4] = [
     ),
 ];
 
+/// Reads a moment; fails where the text spells none.
 fn moment(text: &str) -> Result<Timestamp, Fail> {
     Ok(moment_in(text).ok_or("it spells no moment")?)
 }
 
-/// The data intervals of a range. The zone `file` is that of the zone file.
+/// Lists the data intervals of a range; the zone `file` means `CENTRAL_EUROPE`.
 fn listed(alloc: Global, range: Range) -> Result<Result<Vec<Interval>, IntervalFault>, Fail> {
     let schedule = CronSpec::read(alloc, range.schedule)?;
     let (from, to) = (moment(range.from)?, moment(range.to)?);
@@ -225,6 +226,7 @@ fn listed(alloc: Global, range: Range) -> Result<Result<Vec<Interval>, IntervalF
     Ok(intervals(alloc, &schedule, &zone.as_time_zone(), from, to))
 }
 
+/// Checks that these data intervals start and end so.
 fn are(rt: &impl Abort, found: &[Interval], wanted: Listed) -> Result<(), Fail> {
     assert_eq!(rt; found.len(), wanted.len());
     for (interval, (start, end)) in found.iter().zip(wanted) {

@@ -22,7 +22,7 @@ const EUROPE: &str = "CET-1CEST,M3.5.0,M10.5.0/3";
 /// St. John's, where clocks changed at a minute past midnight.
 const ST_JOHNS: &str = "NST3:30NDT,M3.2.0/0:01,M11.1.0/0:01";
 
-/// The starts of the data intervals.
+/// What is asked, and the starts of the data intervals that are listed.
 static LISTINGS: [(Asked, &[&str]); 9] = [
     (
         Asked {
@@ -163,7 +163,7 @@ static NO_DAYS: [&str; 8] = [
     "2024-01-01..2024-01-02..2024-01-03",
 ];
 
-/// The data intervals that start on days. The zone `file` is that of the zone file.
+/// Lists the data intervals that start on days; the zone `file` means `CENTRAL_EUROPE`.
 fn listed(alloc: Global, asked: Asked) -> Result<Result<Vec<Interval>, IntervalFault>, Fail> {
     let schedule = CronSpec::read(alloc, asked.schedule)?;
     let zone = Zone::read(alloc, asked.zone, Some(CENTRAL_EUROPE))?;
@@ -171,6 +171,7 @@ fn listed(alloc: Global, asked: Asked) -> Result<Result<Vec<Interval>, IntervalF
     Ok(intervals_on(alloc, &schedule, &zone.as_time_zone(), days))
 }
 
+/// Checks that these data intervals start at these moments, in order.
 fn start_at(rt: &impl Abort, found: &[Interval], wanted: &[&str]) -> Result<(), Fail> {
     assert_eq!(rt; found.len(), wanted.len());
     for (interval, start) in found.iter().zip(wanted) {

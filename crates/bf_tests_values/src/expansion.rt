@@ -5,12 +5,13 @@ use std::alloc::Global;
 use std::process::Abort;
 use std::test::Fail;
 
+/// Makes the list of 3, null and true.
 fn list(alloc: Global) -> Result<Xval, OutOfMemory> {
     let found = vec![in alloc; Xval::Int(3), Xval::Nil, Xval::Flag(true)]?;
     Ok(Xval::List(Values::new(found)))
 }
 
-/// What the instances of an expanded source pushed.
+/// Makes what the instances of an expanded source pushed: 3, nothing, null and a list.
 fn pushed(alloc: Global) -> Result<Sequence<Option<Xval>>, OutOfMemory> {
     let nothing = None;
     let each = vec![in alloc;
@@ -22,7 +23,7 @@ fn pushed(alloc: Global) -> Result<Sequence<Option<Xval>>, OutOfMemory> {
     Ok(Sequence::from_vec(each))
 }
 
-/// Requires the text of the list of items, or that they are missing.
+/// Checks that a source gives the items of the list with this text; for None, that it gives none.
 fn gives(
     rt: &impl Abort,
     alloc: Global,

@@ -49,6 +49,7 @@ static BAD: [&str; 19] = [
     "2024-01-01T00:00:60Z",
 ];
 
+/// Reads a moment; fails where the text spells none.
 fn spelled(text: &str) -> Result<Timestamp, Fail> {
     Ok(moment_in(text).ok_or("it spells no moment")?)
 }

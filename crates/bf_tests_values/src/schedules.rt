@@ -61,6 +61,7 @@ static BAD: [&str; 25] = [
     "@midnight",
 ];
 
+/// Makes a civil time of its year, month, day, hour and minute; None where there is none such.
 fn civil(parts: (i16, i8, i8, i8, i8)) -> Option<DateTime> {
     let (year, month, day, hour, minute) = parts;
     DateTime::new(year, month, day, hour, minute, 0, 0).ok()

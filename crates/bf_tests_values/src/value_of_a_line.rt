@@ -64,7 +64,7 @@ static LAST_LINES: [(&[u8], &[u8]); 12] = [
     (b"a\rb\n", b"a\rb"),
 ];
 
-/// The compact JSON text of the value that a line pushes, or `-` where it pushes nothing.
+/// Gives the compact JSON of the value that a line pushes; `-` where it pushes nothing.
 fn pushed(alloc: Global, line: &str) -> Result<String, Fail> {
     match read_line(alloc, line.as_bytes())? {
         Some(value) => Ok(text_of(alloc, &value)?),
@@ -72,7 +72,7 @@ fn pushed(alloc: Global, line: &str) -> Result<String, Fail> {
     }
 }
 
-/// Lists nested so deep.
+/// Makes the text of lists nested `depth` deep.
 fn nested(alloc: Global, depth: usize) -> Result<String, Fail> {
     let mut bytes = vec![in alloc; b'['; depth]?;
     bytes.resize(2 * depth, b']')?;

@@ -11,7 +11,7 @@ use std::test::Fail;
 const RETRIED: &str = r#"{"dag_id":"d","schedule":"@daily",
     "tasks":[{"id":"a","retries":2},{"id":"b","upstream":["a"]}]}"#;
 
-/// Counts the calls for each try of two tasks. The first task succeeds at its third try.
+/// A runner that counts the calls for each try of two tasks. The first task fails twice and succeeds at its third try.
 #[derive(Drop)]
 struct Counting {
     alloc: Global,
@@ -38,6 +38,7 @@ impl Counting {
         }
     }
 
+    /// Counts a call for the try of this name.
     fn count(&self, name: JobName) {
         let calls = if name.task == 0 {
             &self.first
@@ -55,6 +56,7 @@ impl TaskRunner for Counting {
 
     ghost may_give_up = { λ s n g. ⊥ };
 
+    /// Counts the call, and answers status 1 for the first two tries of the first task, else 0.
     fn run(&self, ticket: Ticket) -> Result<Done, (Ticket, RunnerFault)> {
         let name = ticket.name();
         self.count(name);
@@ -67,6 +69,7 @@ impl TaskRunner for Counting {
     }
 }
 
+/// Checks how often each try was asked for; the index is the try's number.
 fn are(rt: &impl Abort, calls: &[AtomicU64; 4], wanted: [u64; 4]) {
     for (calls, wanted) in calls.iter().zip(&wanted) {
         assert_eq!(rt; calls.load(Ordering::SeqCst), *wanted);

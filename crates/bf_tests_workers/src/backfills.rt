@@ -13,13 +13,14 @@ use std::sync::Wait;
 use std::test::Fail;
 use std::thread::Threads;
 
-/// What a backfill came to: the states of its runs, and its tries in the order in which they began.
+/// What came of a backfill: the states of its runs, and its tries in the order in which they began.
 #[derive(Drop)]
 pub struct Told {
     pub run_states: Vec<RunState>,
     pub begun: Vec<JobName>,
 }
 
+/// Gives what came of a backfill that has ended.
 fn told_by(alloc: Global, ended: &Ended<'_>) -> Result<Told, OutOfMemory> {
     Ok(Told {
         run_states: ended.run_states().to_vec(alloc)?,
@@ -27,6 +28,7 @@ fn told_by(alloc: Global, ended: &Ended<'_>) -> Result<Told, OutOfMemory> {
     })
 }
 
+/// Gives what came of a backfill, or the fault that stopped it.
 fn told_of(
     alloc: Global,
     ended: Result<Ended<'_>, BackfillFault>,
@@ -37,7 +39,8 @@ fn told_of(
     }
 }
 
-/// What a run of a graph comes to by so many workers. The clock jumps to each moment that a try waits for.
+/// Runs a graph's backfill of one run by so many workers, and gives what came of it, or the fault that stopped it. The
+/// clock jumps to each moment that a try waits for.
 pub fn backfill<W: Threads + Wait + Sync, R: TaskRunner + Sync>(
     rt: &W,
     alloc: Global,
@@ -56,7 +59,7 @@ pub fn backfill<W: Threads + Wait + Sync, R: TaskRunner + Sync>(
     told_of(alloc, ended)
 }
 
-/// What a run of a graph comes to in the thread that asks.
+/// Runs a graph's backfill of one run in the calling thread, and gives what came of it, or the fault that stopped it.
 pub fn alone<R: TaskRunner>(
     alloc: Global,
     graph: &str,
@@ -67,7 +70,7 @@ pub fn alone<R: TaskRunner>(
     told_of(alloc, one_by_one(alloc, &plan, &runs, runner))
 }
 
-/// The tries in the order in which they began.
+/// Gives the tries of a journal in the order in which they began.
 fn begun(alloc: Global, journal: &[Event]) -> Result<Vec<JobName>, OutOfMemory> {
     let mut names = Vec::new(alloc);
     for event in journal {

@@ -5,7 +5,7 @@ use std::sync::atomic::{AtomicU64, Ordering};
 use std::test::Fail;
 use std::time::Duration;
 
-/// Shows 5 seconds at first, then can't be read, and shows 7 from then on.
+/// A clock that shows 5 seconds at its first reading, fails at the second, and shows 7 seconds from then on.
 #[derive(Drop)]
 struct Faulty {
     reads: AtomicU64,

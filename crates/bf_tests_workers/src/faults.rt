@@ -12,7 +12,8 @@ use std::test::Fail;
 const CHAIN: &str = r#"{"dag_id":"d","schedule":"@daily",
     "tasks":[{"id":"a"},{"id":"b","upstream":["a"]},{"id":"c","upstream":["b"]}]}"#;
 
-/// Gives no answer for the second task, for this cause, and lets the others succeed. Counts how often it is asked.
+/// A runner that gives no answer for the second task, for this cause, lets the others succeed, and counts how often it
+/// is asked.
 #[derive(Drop)]
 struct Quitter {
     alloc: Global,
@@ -35,6 +36,7 @@ impl TaskRunner for Quitter {
 
     ghost may_give_up = { λ s n g. Unit {0} };
 
+    /// Counts the call. Gives the cause for the second task, and answers status 0 for the others.
     fn run(&self, ticket: Ticket) -> Result<Done, (Ticket, RunnerFault)> {
         self.asked.fetch_add(1, Ordering::SeqCst);
         if ticket.name().task == 1 {
@@ -44,7 +46,7 @@ impl TaskRunner for Quitter {
     }
 }
 
-/// The second task was asked for once, and given up; no third was asked for.
+/// Checks that the backfill stopped for the second task's try, which was given up, and that the runner was asked twice.
 fn has_given_up(rt: &impl Abort, quitter: &Quitter, told: Result<Told, BackfillFault>) {
     let name = match told {
         Err(BackfillFault::Runner(name)) => Some(name),
@@ -54,7 +56,7 @@ fn has_given_up(rt: &impl Abort, quitter: &Quitter, told: Result<Told, BackfillF
     assert_eq!(rt; quitter.asked.load(Ordering::SeqCst), 2);
 }
 
-/// The second task was asked for once, where memory was wanting; no third was asked for.
+/// Checks that the backfill stopped for want of memory, and that the runner was asked twice.
 fn lacked_memory(rt: &impl Abort, quitter: &Quitter, told: Result<Told, BackfillFault>) {
     assert!(rt; matches!(told, Err(BackfillFault::OutOfMemory)));
     assert_eq!(rt; quitter.asked.load(Ordering::SeqCst), 2);

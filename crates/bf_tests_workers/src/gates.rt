@@ -10,10 +10,10 @@ use std::thread;
 
 const TWO: &str = r#"{"dag_id":"d","schedule":"@daily","tasks":[{"id":"a"},{"id":"b"}]}"#;
 
-/// How often a try looks whether the other has begun, before it fails.
+/// How many times a try looks whether the other has begun, before it fails.
 const MOST_TURNS: u32 = 500_000_000;
 
-/// The tries of two tasks, of which some wait until the other has begun.
+/// A runner of two tasks, whose tries wait, where they are told to, until the other has begun.
 #[derive(Drop)]
 struct Gate {
     alloc: Global,
@@ -34,7 +34,8 @@ impl Gate {
         }
     }
 
-    /// Marks that the try of a task has begun, and says whether that of the other has, where it is waited for.
+    /// Notes that this task's try has begun, and waits for the other's where it is told to; false where that doesn't
+    /// begin in time.
     fn pass(&self, task: u32) -> bool {
         if task == 0 {
             self.first.store(true, Ordering::SeqCst);
@@ -46,6 +47,7 @@ impl Gate {
     }
 }
 
+/// Waits until `other` is set, and answers true; false where it isn't set after `MOST_TURNS` looks.
 fn waited_for(other: &AtomicBool) -> bool {
     for _turn in 0..MOST_TURNS {
         if other.load(Ordering::SeqCst) {
@@ -61,6 +63,7 @@ impl TaskRunner for Gate {
 
     ghost may_give_up = { λ s n g. ⊥ };
 
+    /// Answers status 0, or 1 where the other try was waited for in vain.
     fn run(&self, ticket: Ticket) -> Result<Done, (Ticket, RunnerFault)> {
         let passes = self.pass(ticket.name().task);
         Ok(ticket.answer(Raw::with_code(i32::from(!passes), Sequence::new(self.alloc))))

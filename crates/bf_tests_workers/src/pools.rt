@@ -16,7 +16,8 @@ const WEIGHED: &str = r#"{"dag_id":"d","schedule":"@daily","pools":{"p":2},"task
 const DELAYED: &str = r#"{"dag_id":"d","schedule":"@daily",
     "tasks":[{"id":"a","retries":1,"retry_delay":60},{"id":"b"}]}"#;
 
-/// Counts the slots of the tries that run, and the most that there were. The first tries fail of the tasks that are to.
+/// A runner that holds the slots of each try for a while, and keeps the most that were occupied at once. Where
+/// `fails_first`, the first try of the first task fails.
 #[derive(Drop)]
 struct Slots {
     alloc: Global,
@@ -38,6 +39,7 @@ impl Slots {
         }
     }
 
+    /// Gives the slots that a try takes; 0 where there is no such task.
     fn of(&self, name: JobName) -> u64 {
         match self.of_tasks.get(name.task as usize) {
             Some(slots) => *slots,
@@ -45,7 +47,7 @@ impl Slots {
         }
     }
 
-    /// Holds the slots of a try for some turns.
+    /// Holds the slots of a try for some turns, and counts them among the occupied ones meanwhile.
     fn hold(&self, name: JobName) {
         let slots = self.of(name);
         let before = self.occupied.fetch_add(slots, Ordering::SeqCst);
@@ -63,6 +65,7 @@ impl TaskRunner for Slots {
 
     ghost may_give_up = { λ s n g. ⊥ };
 
+    /// Holds the slots of the try for a while. Answers status 1 where it is to fail, else 0.
     fn run(&self, ticket: Ticket) -> Result<Done, (Ticket, RunnerFault)> {
         let name = ticket.name();
         self.hold(name);

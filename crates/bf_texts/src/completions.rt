@@ -1,6 +1,6 @@
 //! What shells complete of the command line. A new option or subcommand goes into each of the three.
 
-/// Of bash.
+/// The completions for bash.
 pub const BASH: &str =
     r#"# Completions of backfill for bash. Source them, or keep them as backfill in ~/.local/share/bash-completion/completions.
 
@@ -63,7 +63,7 @@ _backfill() {
 complete -F _backfill backfill
 "#;
 
-/// Of zsh.
+/// The completions for zsh.
 pub const ZSH: &str = r#"#compdef backfill
 # Completions of backfill for zsh. Source them, or keep them as _backfill in a folder of $fpath.
 
@@ -163,7 +163,7 @@ else
 fi
 "#;
 
-/// Of fish.
+/// The completions for fish.
 pub const FISH: &str =
     r#"# Completions of backfill for fish. Source them, or keep them as backfill.fish in ~/.config/fish/completions.
 

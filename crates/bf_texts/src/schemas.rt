@@ -1,6 +1,6 @@
 //! JSON Schemas of the formats whose files are written by hand.
 
-/// Of graph files.
+/// The JSON Schema of graph files.
 pub const GRAPH: &str = r##"{
   "$schema": "https://json-schema.org/draft/2020-12/schema",
   "title": "Task graph of backfill",
@@ -210,7 +210,7 @@ pub const GRAPH: &str = r##"{
 }
 "##;
 
-/// Of tables.
+/// The JSON Schema of tables of answers.
 pub const TABLE: &str = r##"{
   "$schema": "https://json-schema.org/draft/2020-12/schema",
   "title": "Table of answers of backfill",

@@ -26,8 +26,8 @@ pub(crate) fn first_line(bytes: &[u8]) -> Option<&[u8]>
     }
 }
 
-/// Whether a line is a journal's head like `head`, whatever tasks it says are cleared: the same up to the bracket
-/// that ends the list, and there a bracket or a comma.
+/// Whether `line` is a journal's head like `head`, which clears nothing, whatever it says is cleared: it is the same up
+/// to the bracket that ends the list, and has a bracket or a comma there.
 fn is_line_like(line: &[u8], head: &[u8]) -> bool
     ensures { result ≡ is_head_like head.now line.now }
 {
@@ -36,7 +36,7 @@ fn is_line_like(line: &[u8], head: &[u8]) -> bool
         && (line[..front] == head[..front] && (line[front] == b']' || line[front] == b','))
 }
 
-/// Whether a line is the head of a journal of this plan and these runs, whatever tasks it says are cleared.
+/// Whether a line is the head of a journal of this plan and these runs, whatever it says is cleared.
 pub(crate) fn is_head(
     alloc: Global,
     plan: &Plan,

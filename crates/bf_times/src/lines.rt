@@ -10,13 +10,14 @@ use std::alloc::{AllocError, Global};
 /// How deep the lists of a record may nest: as deep as JSON is read.
 const DEEPEST_RECORD: usize = 127;
 
-/// The place of the times among the members of a record, behind those of the try's name.
+/// The place of the times among the members of a record, from 0.
 const TIMES: usize = 8;
 
-/// How many members name a try: its run, its task, its map index and its number.
+/// How many members at the front of a record name its try: run, task, map index and number.
 const NAME: usize = 4;
 
-/// Adds a value and a space: a text as it is, a whole number in decimal, and for any other value the space alone.
+/// Adds a value and a space after it: a text as it is, a whole number in decimal, and just the space for any other
+/// value.
 fn push_word(text: &mut String, value: &Xval) -> Result<(), OutOfMemory>
     ensures { OnOk result (string_bytes text.new
         ≡ string_bytes text.old ++ word_before value.now) }
@@ -30,7 +31,7 @@ fn push_word(text: &mut String, value: &Xval) -> Result<(), OutOfMemory>
     Ok(())
 }
 
-/// Adds these values, each with a space behind it.
+/// Adds these values, each followed by a space, as `push_word` does.
 fn push_words(text: &mut String, values: &[Xval]) -> Result<(), OutOfMemory>
     ensures { OnOk result (string_bytes text.new
         ≡ string_bytes text.old ++ flat_map word_before values.now) }
@@ -41,7 +42,8 @@ fn push_words(text: &mut String, values: &[Xval]) -> Result<(), OutOfMemory>
     Ok(())
 }
 
-/// Start, end and code of a try, by the three values of its stamp; None where these aren't three whole numbers.
+/// The start and the end of a try, in milliseconds since 1970, and its exit code, from the values of its times; None
+/// where these aren't three whole numbers.
 fn numbers_in(values: &[Xval]) -> Option<(i64, i64, i64)>
     ensures { result ≡ three_numbers values.now }
 {
@@ -51,7 +53,8 @@ fn numbers_in(values: &[Xval]) -> Option<(i64, i64, i64)>
     }
 }
 
-/// Start, end and code of a try, by the fields of its record; None where the record has no times.
+/// The start and the end of a try, in milliseconds since 1970, and its exit code, from the members of its record; None
+/// where its times aren't a list of three whole numbers.
 fn times_in(fields: &[Xval]) -> Option<(i64, i64, i64)>
     ensures { result ≡ numbers_of (slice_get fields.now 8) }
 {
@@ -61,8 +64,8 @@ fn times_in(fields: &[Xval]) -> Option<(i64, i64, i64)>
     }
 }
 
-/// Adds the line of a record's times, with its line feed: what names the try, its start, its end and its code;
-/// nothing where the record has no times.
+/// Adds the line of a record's times, with its line feed: the name of the try, its start, its end and its exit code.
+/// Adds nothing where the record has no times.
 fn push_times_of_record(text: &mut String, fields: &[Xval]) -> Result<(), OutOfMemory>
     ensures { OnOk result (string_bytes text.new
         ≡ string_bytes text.old ++ record_times fields.now) }
@@ -75,7 +78,7 @@ fn push_times_of_record(text: &mut String, fields: &[Xval]) -> Result<(), OutOfM
     Ok(())
 }
 
-/// Adds the line of times of the record in a line of JSON; nothing where that isn't a list or has no times.
+/// Adds the line of times of the record that a line of JSON holds; adds nothing where it isn't a list or has no times.
 fn push_times_of_line(alloc: Global, text: &mut String, line: &str) -> Result<(), OutOfMemory>
     ensures { OnOk result (string_bytes text.new
         ≡ string_bytes text.old ++ line_times line.now) }
@@ -86,14 +89,14 @@ fn push_times_of_line(alloc: Global, text: &mut String, line: &str) -> Result<()
     }
 }
 
-/// The lines of a text, without their line feeds.
+/// The lines of a text, without their ends.
 fn lines_of(alloc: Global, records: &str) -> Result<Vec<&str>, AllocError>
     ensures { IfOk result (λ found. map (λ line. line.now) found.items ≡ lines_in records.now) }
 {
     records.lines().collect(alloc)
 }
 
-/// Adds a line of times for each of these lines of JSON that is a record with times.
+/// Adds a line of times for each of these lines of JSON that holds a record with times, in order.
 fn push_times_of_lines(alloc: Global, text: &mut String, lines: &[&str]) -> Result<(), OutOfMemory>
     ensures { OnOk result (string_bytes text.new ≡ string_bytes text.old
         ++ flat_map line_times (map (λ line. line.now) lines.now)) }
@@ -104,7 +107,7 @@ fn push_times_of_lines(alloc: Global, text: &mut String, lines: &[&str]) -> Resu
     Ok(())
 }
 
-/// Adds a line of times for each line of a text that is a record with times.
+/// Adds a line of times for each line of `records` that holds a record with times, in order.
 pub(crate) fn push_times_of_text(
     alloc: Global,
     text: &mut String,

@@ -10,8 +10,8 @@ use bf_plan::Plan;
 use bf_value::OutOfMemory;
 use std::alloc::Global;
 
-/// The text of the times in `records`, the whole lines behind a journal's head: a head of its own and a line for each
-/// record with times; only the head where they aren't UTF-8.
+/// The text of the times in `records`, the whole lines after a journal's head: a head of its own, and a line for each
+/// record with times. Just the head where `records` isn't UTF-8.
 fn text_of_times(alloc: Global, records: &[u8]) -> Result<String, OutOfMemory>
     ensures { IfOk result (λ text. IsTextOf records.now (string_bytes text)) }
 {
@@ -23,9 +23,9 @@ fn text_of_times(alloc: Global, records: &[u8]) -> Result<String, OutOfMemory>
     Ok(text)
 }
 
-/// The text of the times in the bytes of a journal of a plan and these runs, whatever tasks its head says are
-/// cleared. An unfinished last line is dropped. A fault where the head is missing or another's, or a whole line is no
-/// record.
+/// The text of the times in the bytes of a journal of this plan and these runs, whatever its head says is cleared; an
+/// unfinished last line is dropped. `Mismatch` where it begins with no such head, `BadRecord` where a whole line after
+/// that is no record of a try, `OutOfMemory` where memory ran out.
 pub fn times_of(
     alloc: Global,
     plan: &Plan,

@@ -13,7 +13,7 @@ use crate::answers::{Exit, Line, Raw, copy_of_bytes};
 use bf_plan::{Dag, Plan};
 use bf_rule::names_downstreams;
 use bf_value::{DEEPEST, LineFault, OutOfMemory, Sequence, Xval, read_line, text_of};
-use bf_xcom::Outcome;
+use bf_xcom::{Outcome, SharedValue};
 use std::alloc::Global;
 
 /// How many bytes the compact JSON text of a pushed value may have.
@@ -25,27 +25,27 @@ pub const MOST_ITEMS: usize = 1_024;
 /// The status by which a try says that it is skipped. Airflow's `BashOperator` has the same.
 const SKIP_STATUS: i32 = 99;
 
-/// Whether the JSON text of what is pushed, if anything is, has at most `LONGEST_VALUE` bytes.
-fn is_short_value(value: &Option<Xval>) -> bool
+/// Whether the compact JSON text of what is pushed, if anything is, has at most `LONGEST_VALUE` bytes.
+fn is_short_value(value: &SharedValue) -> bool
     ensures { result ≡ is_short_value_in value.now }
 {
-    match value {
+    match value.get() {
         Some(value) => value.has_text_within(LONGEST_VALUE),
         None => true,
     }
 }
 
 /// Whether what is pushed is a list of at most `MOST_ITEMS` items.
-fn is_list_of_items(value: &Option<Xval>) -> bool
+fn is_list_of_items(value: &SharedValue) -> bool
     ensures { result ≡ is_list_of_items_in value.now }
 {
-    match value {
+    match value.get() {
         Some(Xval::List(values)) => values.as_slice().len() <= MOST_ITEMS,
         _ => false,
     }
 }
 
-/// Whether the task that this one is expanded over, if any, is `source`.
+/// Whether a task with this `expand` is expanded over `source`.
 fn is_source_of(source: u32, expand: Option<u32>) -> bool
     ensures { result ≡ is_source expand source }
 {
@@ -90,18 +90,18 @@ fn gives_items(plan: &Plan, task: u32) -> bool
     plan.dag().task(task).expand.is_none() && is_source_of_some(plan, task)
 }
 
-/// Whether a task is no branch, or pushes only names of its direct downstreams.
-fn names_downstreams_if_branch(plan: &Plan, task: u32, value: &Option<Xval>) -> bool
+/// Whether a task is no branch, or `value` names only direct downstreams of it.
+fn names_downstreams_if_branch(plan: &Plan, task: u32, value: &SharedValue) -> bool
     requires { task < length plan.now.dag.tasks }
     ensures { result ≡ (not (is_branch_in (task_of plan.now.dag task))
         || names_downstreams_in (shape_of plan.now.dag) task value.now) }
 {
-    !plan.dag().is_branch(task) || names_downstreams(plan.graph(), task, value.as_ref())
+    !plan.dag().is_branch(task) || names_downstreams(plan.graph(), task, value.get())
 }
 
-/// Whether a task may push this: it is short enough, names downstreams if the task is a branch, and is a list
-/// of items if another task is expanded over it.
-fn may_push(plan: &Plan, task: u32, value: &Option<Xval>) -> bool
+/// Whether a task may push `value`: it is short enough, names downstreams if the task is a branch, and is a list of
+/// items if another task is expanded over this unmapped one.
+fn may_push(plan: &Plan, task: u32, value: &SharedValue) -> bool
     requires { task < length plan.now.dag.tasks }
     ensures { result ≡ may_push_in plan.now.dag task value.now }
 {
@@ -110,11 +110,12 @@ fn may_push(plan: &Plan, task: u32, value: &Option<Xval>) -> bool
             && (!gives_items(plan, task) || is_list_of_items(value)))
 }
 
-/// Whether a line of output can push this: no `null`, and lists nested at most `DEEPEST` deep.
-fn is_readable_from_line(value: &Option<Xval>) -> bool
+/// Whether some line of output pushes this: nothing, or a value that isn't `null` and whose lists nest at most
+/// `DEEPEST` deep.
+fn is_readable_from_line(value: &SharedValue) -> bool
     ensures { result ≡ is_readable_from_line_in value.now }
 {
-    match value {
+    match value.get() {
         Some(Xval::Nil) => false,
         Some(value) => value.is_nested_within(DEEPEST),
         None => true,
@@ -141,8 +142,9 @@ fn grade_line(alloc: Global, plan: &Plan, task: u32, line: &[u8]) -> Result<Outc
 {
     match read_line(alloc, line) {
         Ok(value) => {
-            if may_push(plan, task, &value) {
-                Ok(Outcome::Success(value))
+            let pushed = SharedValue::new(alloc, value)?;
+            if may_push(plan, task, &pushed) {
+                Ok(Outcome::Success(pushed))
             } else {
                 Ok(Outcome::Failed)
             }
@@ -152,11 +154,11 @@ fn grade_line(alloc: Global, plan: &Plan, task: u32, line: &[u8]) -> Result<Outc
     }
 }
 
-/// The outcome of a raw answer: failed where the program did not start, was ended by a signal or its output could
-/// not be had; skipped at status 99, with the line unread; failed at another status than 0; else by the line. That has
-/// failed where it is not UTF-8, where its value's text is longer than 65,536 bytes, where the task is a branch and the
-/// value doesn't name direct downstreams, and where a task is expanded over this one, itself unmapped, and the value is
-/// no list of at most 1,024 items; else it is a success that pushes the value.
+/// Grades a raw answer. It is failed where the program didn't start, was ended by a signal or its output couldn't be
+/// had; skipped at status 99; failed at any other status than 0. At 0 it is a success that pushes the value of the last
+/// line, but failed where that isn't UTF-8, the value's text is longer than 65,536 bytes, the task is a branch and the
+/// value doesn't name direct downstreams, or a task is expanded over this unmapped one and the value is no list of at
+/// most 1,024 items.
 #[tactic(auto, unfolding(crate::specs::Grades::grade_of))]
 pub fn grade(alloc: Global, plan: &Plan, task: u32, raw: &Raw) -> Result<Outcome, OutOfMemory>
     requires { task < length plan.now.dag.tasks }
@@ -187,22 +189,21 @@ pub fn each_fit_is_a_grade()
         → fits_in dag task outcome ≡ true → (raw : Raw) × (grade_of dag task raw ≡ outcome) }
 {}
 
-/// The last line, without a line feed, by which a program pushes this value; empty for nothing. What no line can push
-/// (`is_readable_from_line`) is read otherwise from it.
-fn line_that_pushes(alloc: Global, pushed: &Option<Xval>) -> Result<Sequence<u8>, OutOfMemory>
+/// The last line of output, without a line feed, that pushes this value; empty where nothing is pushed. It reads back
+/// as the value wherever some line can push that (`is_readable_from_line`).
+fn line_that_pushes(alloc: Global, pushed: &SharedValue) -> Result<Sequence<u8>, OutOfMemory>
     ensures text { IfOk result (λ line. IsUtf8 line) }
     ensures reads_back { IfOk result
         (λ line. is_readable_from_line_in pushed.now ≡ true → value_of_line line ≡ pushed.now) }
 {
-    let Some(value) = pushed else {
+    let Some(value) = pushed.get() else {
         return Ok(Sequence::new(alloc));
     };
     let text = text_of(alloc, value)?;
     copy_of_bytes(alloc, text.as_str().as_bytes())
 }
 
-/// An answer whose grade is this outcome, for a try of each task that the outcome fits: so what fits is just what `grade`
-/// could give.
+/// An answer whose grade is this outcome, for a try of any task that the outcome fits.
 pub fn answer_for(alloc: Global, outcome: &Outcome) -> Result<Raw, OutOfMemory>
     ensures { IfOk result (λ raw. GradesTo raw outcome.now) }
 {

@@ -50,7 +50,7 @@ pub enum NoteFault {
 }
 
 impl Ledger {
-    /// A ledger of no tries.
+    /// An empty ledger.
     pub fn new(alloc: Global) -> Self
         ensures { result ≡ FinMap.empty }
     {
@@ -59,15 +59,15 @@ impl Ledger {
         }
     }
 
-    /// What the ledger holds of a try; None where that hasn't ended.
+    /// What the ledger holds of a try; None where it has no such try.
     pub fn get(&self, name: JobName) -> Option<&Entry>
         ensures { option_copied result ≡ FinMap.get self.now name }
     {
         self.entries.get(&name)
     }
 
-    /// Notes a try that has ended. Where the try was noted before (`AlreadyRecorded`), or memory is wanting, the
-    /// entry comes back and nothing changes.
+    /// Notes the entry of a try that has ended. `Err` hands the entry back and changes nothing: `AlreadyRecorded` where
+    /// the ledger has the try already, else `OutOfMemory`.
     pub fn note(&mut self, name: JobName, entry: Entry) -> Result<(), (Entry, NoteFault)>
         ensures ok { OnOk result ((FinMap.get self.old name ≡ None)
             × (self.new ≡ FinMap.insert self.old name entry)) }
@@ -86,7 +86,8 @@ impl Ledger {
     }
 }
 
-/// Whether `other`, an entry for the same try, has another given, or the same outcome; true where there is none.
+/// Whether `other`, an entry for the same try, doesn't contradict `entry`: it has another given, or the same outcome,
+/// or is missing.
 fn agrees(entry: &Entry, other: Option<&Entry>) -> bool
     ensures { IsTrue result ↔ Agree entry.now (option_copied other.entry) }
 {
@@ -98,7 +99,7 @@ fn agrees(entry: &Entry, other: Option<&Entry>) -> bool
     }
 }
 
-/// Whether each entry agrees with the other ledger: none has the same try and given with another outcome.
+/// Whether no entry contradicts the other ledger: that has none of these tries with the same given and another outcome.
 fn all_agree(entries: &BTreeMap<JobName, Entry>, other: &Ledger) -> bool
     ensures all { IsTrue result
         ↔ All (λ e. Agree e.1 (FinMap.get other.now e.0)) entries.now.entries }

@@ -19,13 +19,14 @@ impl From<OutOfMemory> for RunnerFault {
 
     ghost from_gives = { λ _ e. e ≡ OutOfMemory };
 
+    /// Want of memory is the fault `OutOfMemory`.
     fn from(_e: OutOfMemory) -> RunnerFault {
         RunnerFault::OutOfMemory
     }
 }
 
-/// Runs tries. Its two relations say which answers may come, and which tries it may give up; they are a promise of
-/// the runner, on which all that is said of a backfill rests.
+/// Runs tries. Its two relations say which answers may come, and which tries it may give up. The runner promises them,
+/// and all that is said of a backfill rests on that.
 pub trait TaskRunner {
     ghost use Rattle.bf_value.specs.declared.name.JobName.{JobName};
     ghost use Rattle.bf_xcom.specs.declared.values.Given.{Given};
@@ -37,7 +38,8 @@ pub trait TaskRunner {
     /// The try of this name, given this, may be given up.
     ghost may_give_up: { Self → JobName → Given → Type 0 };
 
-    /// Runs the try of a ticket. Where there is no answer the ticket is handed back.
+    /// Runs the try of a ticket. `Err` hands the ticket back: `GaveUp` where the runner gave the try up, `OutOfMemory`
+    /// at want of memory.
     fn run(&self, ticket: Ticket) -> Result<Done, (Ticket, RunnerFault)>
         ensures ok { IfOk result (λ d. (d.name ≡ ticket.name) × (d.given ≡ ticket.given)
             × may_answer self.now d.name d.given d.raw) }

@@ -54,7 +54,7 @@ impl Model for Done {
 }
 
 impl Ticket {
-    /// A ticket for the try of this name. Whoever issues it sees to it that no other ticket has the name.
+    /// A ticket for the try of this name. The caller sees to it that no other ticket has the name.
     pub fn issue(name: JobName, given: Given) -> Ticket
         ensures { result ≡ record { name = name; given = given } }
     {
@@ -75,7 +75,7 @@ impl Ticket {
         &self.given
     }
 
-    /// Answers the ticket, which is used up.
+    /// Answers the try of the ticket, which is used up by that.
     pub fn answer(self, raw: Raw) -> Done
         ensures { result ≡ record { name = self.name; given = self.given; raw = raw } }
     {

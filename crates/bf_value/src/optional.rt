@@ -5,7 +5,7 @@ use crate::memory::OutOfMemory;
 use crate::xval::Xval;
 use std::alloc::Global;
 
-/// A copy of a value; None of None.
+/// A copy of a value; None where there is none.
 pub fn copy_option(alloc: Global, value: Option<&Xval>) -> Result<Option<Xval>, OutOfMemory>
     ensures { IfOk result (λ copy. copy ≡ option_copied value.entry) }
 {

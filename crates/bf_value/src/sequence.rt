@@ -21,7 +21,7 @@ impl<T> Model for Sequence<T> {
 }
 
 impl<T: Drop> Sequence<T> {
-    /// No items.
+    /// An empty sequence.
     pub fn new(alloc: Global) -> Self
         ensures { result ≡ [] }
     {
@@ -30,14 +30,14 @@ impl<T: Drop> Sequence<T> {
         }
     }
 
-    /// The items of a vector, which is moved in.
+    /// A sequence of the items of a vector, which is moved in.
     pub fn from_vec(items: Vec<T>) -> Self
         ensures { result ≡ items.items }
     {
         Sequence { items }
     }
 
-    /// Gives the vector back.
+    /// The items as a vector.
     pub fn into_vec(self) -> Vec<T>
         ensures { result.items ≡ self }
     {
@@ -45,7 +45,7 @@ impl<T: Drop> Sequence<T> {
         items
     }
 
-    /// The items.
+    /// The items as a slice.
     pub fn as_slice(&self) -> &[T]
         ensures { result.now ≡ self.now }
     {
@@ -73,7 +73,7 @@ impl<T: Drop> Sequence<T> {
         self.items.get(index)
     }
 
-    /// Adds an item at the end.
+    /// Adds an item at the end; `Err` changes nothing.
     pub fn push(&mut self, item: T) -> Result<(), OutOfMemory>
         ensures ok { OnOk result (self.new ≡ self.old ++ item ∷ []) }
         ensures err { OnErr result (self.new ≡ self.old) }

@@ -18,8 +18,8 @@ impl Xval {
         room_after(limit, self).is_some()
     }
 
-    /// Whether lists nest at most `deepest` deep. A value that is no list has depth 0, and a list without a list in
-    /// it depth 1.
+    /// Whether the lists of the value nest at most `deepest` deep. A value that is no list has depth 0, and a list
+    /// without a list in it depth 1.
     #[cycle(nested)]
     pub fn is_nested_within(&self, deepest: usize) -> bool
         ensures { IsTrue result ↔ (plain_depth (plain_of self.now) ≤ deepest) }
@@ -31,7 +31,7 @@ impl Xval {
     }
 }
 
-/// Whether a list of these items is nested at most `deepest` deep.
+/// Whether a list of these items nests at most `deepest` deep, itself counted.
 #[cycle(nested)]
 fn are_nested_within(values: &Values, deepest: usize) -> bool
     ensures { IsTrue result ↔ (plains_depth values.now ≤ deepest) }
@@ -90,7 +90,7 @@ fn room_after_text(room: usize, text: &str) -> Option<usize>
     Some(left)
 }
 
-/// Whether JSON escapes this byte by a backslash and one letter.
+/// Whether JSON escapes this byte by a backslash and one character.
 fn has_short_escape(byte: u8) -> bool
     ensures { result ≡ nat_lt 0 (escape_letter byte) }
 {
@@ -114,7 +114,7 @@ fn escaped_len(byte: u8) -> usize
     }
 }
 
-/// How many characters the decimal text of a number has, its sign too.
+/// How many characters the decimal text of a number has, with its sign.
 fn integer_len(n: i64) -> usize
     ensures { result ≡ length (signed_decimal n) }
 {

@@ -13,8 +13,9 @@ use bf_disk::Source;
 use bf_input::read_report_file;
 use std::alloc::Global;
 
-/// Does the command `answers`: reads the report at `path`, and writes the table of answers over which a dry backfill
-/// makes it again. No graph file is read.
+/// Does `answers`: reads the report at `path`, and no graph file, and writes the table with which `dry` makes that
+/// report again. `Err` where the report can't be read or is refused, `out` fails, or memory runs out. At `Err`, `out`
+/// got nothing but the bytes that `CannotWrite` counts.
 pub fn answer_answers<S: Source, W: Write>(
     alloc: Global,
     path: String,

@@ -8,14 +8,14 @@ use bf_input::moment_of;
 use bf_interval::IntervalFault;
 use jiff::Timestamp;
 
-/// The moments from and up to which runs are shown, where there are such.
+/// The first and the last moment at which a run that is shown may start; None for no bound.
 #[derive(Clone, Copy, Debug)]
 pub(crate) struct Bounds {
     pub(crate) from: Option<Timestamp>,
     pub(crate) to: Option<Timestamp>,
 }
 
-/// The moment in a text; None where there is no text. A fault where the text is no moment.
+/// Reads the moment in a text; None where there is no text. `Err(BadMoment)` where the text is no moment.
 fn optional_moment(text: &Option<String>) -> Result<Option<Timestamp>, CommandFault>
     ensures means { IfOk result (MeansIfGiven text.now) }
     ensures bad { IfErr result (λ f. (f ≡ CommandFault.BadMoment) × IsNoMomentIfGiven text.now) }
@@ -30,7 +30,7 @@ fn optional_moment(text: &Option<String>) -> Result<Option<Timestamp>, CommandFa
 }
 
 impl Bounds {
-    /// The bounds that a command line asks for. A fault where one of them is no moment.
+    /// Reads the bounds that `show` asks for. `Err(BadMoment)` where one of them is no moment.
     pub(crate) fn of(asked: &ShowAsked) -> Result<Bounds, CommandFault>
         ensures means { IfOk result (MeansBounds asked.now) }
         ensures bad { IfErr result (λ f. (f ≡ CommandFault.BadMoment) × HasNoBound asked.now) }
@@ -50,7 +50,8 @@ impl Bounds {
         }
     }
 
-    /// Refuses bounds whose last moment is before the first.
+    /// Checks that the last moment isn't before the first; passes where one of them isn't given. `Err` with
+    /// `RangeReversed` where it is.
     pub(crate) fn refuse_reversed(&self) -> Result<(), CommandFault>
         ensures ok { OnOk result (is_reversed_in self.now ≡ false) }
         ensures err { IfErr result (λ f.

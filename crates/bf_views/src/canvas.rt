@@ -2,21 +2,23 @@
 ghost use Rattle.std.specs.Prelude.{◌≡◌, IfSome, IfNone, option_map};
 ghost use Rattle.bf_views.specs.Canvases.{IsWidthBy, SaysColumns, columns_said, has_colors_in};
 
-/// The least and the greatest width of a grid, and the one that it has by itself.
+/// The least width of a grid, in characters.
 const LEAST_WIDTH: u32 = 20;
 
+/// The greatest width of a grid, in characters.
 const GREATEST_WIDTH: u32 = 10_000;
 
+/// The width of a grid where nothing says another, in characters.
 const USUAL_WIDTH: u32 = 80;
 
-/// What a grid is shown on where the line doesn't say: how wide that is, in characters, and whether it has colours.
+/// How wide a grid is, in characters, and whether it is coloured, where the line doesn't say so.
 #[derive(Clone, Copy, Debug, PartialEq, Eq)]
 pub struct Canvas {
     pub width: u32,
     pub colored: bool,
 }
 
-/// The width that a text says; None where it isn't a whole number from 20 to 10,000.
+/// Reads a width in characters; None where the text isn't a whole number from 20 to 10,000.
 fn width_said(text: &str) -> Option<u32>
     ensures some { IfSome result (λ width. SaysColumns text.now × (width ≡ columns_said text.now)) }
     ensures none { IfNone result (SaysColumns text.now → ⊥) }
@@ -27,7 +29,7 @@ fn width_said(text: &str) -> Option<u32>
     }
 }
 
-/// The width that COLUMNS says; 80 where it isn't set or no whole number from 20 to 10,000.
+/// The width that COLUMNS says; 80 where it isn't set, or isn't a whole number from 20 to 10,000.
 fn width_by(columns: Option<&str>) -> u32
     ensures { IsWidthBy (option_map (λ c. c.now) columns.entry) result }
 {
@@ -40,7 +42,7 @@ fn width_by(columns: Option<&str>) -> u32
     }
 }
 
-/// Whether a grid has colours: on a terminal, unless NO_COLOR says something or TERM is `dumb`.
+/// Whether a grid has colours: on a terminal, unless NO_COLOR is set and not empty, or TERM is `dumb`.
 fn has_colors(is_terminal: bool, no_color: Option<&str>, term: Option<&str>) -> bool
     ensures { result ≡ has_colors_in is_terminal (option_map (λ c. c.now) no_color.entry)
         (option_map (λ t. t.now) term.entry) }
@@ -49,8 +51,8 @@ fn has_colors(is_terminal: bool, no_color: Option<&str>, term: Option<&str>) -> 
 }
 
 impl Canvas {
-    /// The canvas by COLUMNS, NO_COLOR and TERM where they are set: as wide as COLUMNS, if that is from 20 to 10,000,
-    /// and else 80; coloured on a terminal where NO_COLOR is missing or empty and TERM isn't `dumb`.
+    /// Makes the canvas for these values of COLUMNS, NO_COLOR and TERM, None where not set: as wide as COLUMNS, if that
+    /// is from 20 to 10,000, else 80; coloured on a terminal, unless NO_COLOR is set and not empty, or TERM is `dumb`.
     pub fn of(
         is_terminal: bool,
         columns: Option<&str>,

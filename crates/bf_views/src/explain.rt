@@ -26,7 +26,7 @@ use bf_value::{OutOfMemory, Text};
 use jiff::Timestamp;
 use std::alloc::Global;
 
-/// A copy of a path; None where none is named.
+/// Copies a path; None where none is named.
 fn text_if_named(alloc: Global, path: &Option<String>) -> Result<Option<Text>, OutOfMemory>
     ensures { IfOk result (λ text. text ≡ option_map string_bytes path.now) }
 {
@@ -36,7 +36,8 @@ fn text_if_named(alloc: Global, path: &Option<String>) -> Result<Option<Text>, O
     }
 }
 
-/// The paths of the graph, the report and the zone file, None where none is named, as a command line has them.
+/// Copies the paths of the graph, the report and the zone file as the line spells them; that of the zone file is None
+/// where it isn't named.
 fn paths_of(alloc: Global, asked: &ExplainAsked) -> Result<Paths, OutOfMemory>
     ensures { IfOk result (λ paths. paths ≡ paths_asked asked.now) }
 {
@@ -47,14 +48,15 @@ fn paths_of(alloc: Global, asked: &ExplainAsked) -> Result<Paths, OutOfMemory>
     })
 }
 
-/// The number of the task asked for by its id; None where the plan has no such task.
+/// Answers the number of the task with the id that is asked for, from 0 in file order; None where the plan has no such
+/// task.
 fn task_number_of(plan: &Plan, task: &TaskAsked) -> Option<u32>
     ensures { result ≡ task_number plan.now.dag task.now }
 {
     plan.graph().number_of(task.id.as_str())
 }
 
-/// The number of the run of a report that starts at a moment, 0 for the first; None where none does.
+/// Answers the number of the report's run that starts at a moment, 0 for its first; None where none does.
 fn run_number_at(report: &Report, start: Timestamp) -> Option<usize>
     ensures { result ≡ run_number report.now start.nanosecond }
 {
@@ -65,8 +67,8 @@ fn run_number_at(report: &Report, start: Timestamp) -> Option<usize>
         .position(|run| run.interval.start == start)
 }
 
-/// The text that explains the run that starts at a moment. A fault where none does, or the report isn't of this
-/// graph.
+/// Explains the run that starts at the moment `start`. `Err` where no run does, the report isn't of this graph, or
+/// memory runs out.
 fn explain_run_at(
     alloc: Global,
     paths: &Paths,
@@ -88,8 +90,8 @@ fn explain_run_at(
     Ok(explain_run(alloc, plan, told_run, order.as_slice())?)
 }
 
-/// The text that explains a task in the run that starts at a moment. A fault where there is no such task, run or map
-/// index, or the report isn't of this graph.
+/// Explains a task, or one instance of it, in the run that starts at the moment `start`. `Err` where there is no such
+/// task, run or map index, the report isn't of this graph, or memory runs out.
 fn explain_task_at(
     alloc: Global,
     paths: &Paths,
@@ -121,8 +123,8 @@ fn explain_task_at(
     )?)
 }
 
-/// The text that explains a task in the run that starts at a moment, or the run where `task` is None. A fault where
-/// what is asked for isn't there, or the report isn't of this graph.
+/// Explains `task` in the run that starts at the moment `start`, or that run where it is None. `Err` where there is no
+/// such task, run or map index, the report isn't of this graph, or memory runs out.
 fn explain_run_or_task(
     alloc: Global,
     paths: &Paths,
@@ -143,8 +145,9 @@ fn explain_run_or_task(
     }
 }
 
-/// Does the command `explain`: checks the run's moment, reads the files and checks the graph, reads the report, and
-/// writes why a task or a run has its state. The report may be of `single`, and of any range.
+/// Does `explain`: writes why a task or a run has its state; the report may be of `single`, or of any range. `Err`
+/// where the moment, the graph, the report, or a task, run or map index is refused, checked in this order; also where
+/// `out` fails or memory runs out. At `Err`, `out` got nothing but the bytes that `CannotWrite` counts.
 pub fn answer_explain<S: Source, W: Write>(
     alloc: Global,
     asked: ExplainAsked,

@@ -12,8 +12,9 @@ use bf_input::read_report_file;
 use bf_show::write_json_lines;
 use std::alloc::Global;
 
-/// Does the command `show --json`: reads the report at `path`, and writes a line of JSON for each task instance in
-/// it. No graph file is read.
+/// Does `show --json`: reads the report at `path`, and no graph file, and writes a line of JSON for each task instance
+/// in it. `Err` where the report can't be read or is refused, `out` fails, or memory runs out. At `Err`, `out` got
+/// nothing but the bytes that `CannotWrite` counts.
 pub fn answer_show_json<S: Source, W: Write>(
     alloc: Global,
     path: String,

@@ -13,7 +13,7 @@ use bf_report::{Report, RunReport};
 use bf_value::OutOfMemory;
 use std::alloc::Global;
 
-/// The data intervals of these runs, in order.
+/// Lists the data intervals of these runs, in their order.
 pub(crate) fn intervals_of(alloc: Global, runs: &[RunReport]) -> Result<Vec<Interval>, OutOfMemory>
     ensures { IfOk result (λ intervals. intervals.items ≡ intervals_in runs.now) }
 {
@@ -24,7 +24,8 @@ pub(crate) fn intervals_of(alloc: Global, runs: &[RunReport]) -> Result<Vec<Inte
     Ok(intervals)
 }
 
-/// Refuses a report whose dag id, tasks or pulls aren't this graph's. Its data intervals may be any.
+/// Checks that the report's dag id, tasks and pulls are this graph's; its data intervals may be any. `Err` with
+/// `ReportMismatch` where they aren't, or at want of memory.
 pub(crate) fn refuse_other_graph(
     alloc: Global,
     dag: &Dag,

@@ -26,11 +26,11 @@ use bf_value::{OutOfMemory, Text};
 use std::alloc::Global;
 use std::marker::Model;
 
-/// How many bytes of a report stand on a page; a longer one is left out.
+/// The longest report whose text is put on its page, in bytes.
 const LONGEST_REPORT: usize = 134_217_728;
 
-/// What a line asks for, kept while its files are read: the paths as they stand there, of which the zone file's is
-/// empty where there is none, and whether only the states are shown.
+/// What a page says of its line: the paths as they stand there, empty for a zone file that isn't named, and whether
+/// only states are shown.
 #[derive(Drop)]
 struct Words {
     graph: Text,
@@ -55,7 +55,7 @@ impl Model for Words {
     } };
 }
 
-/// A copy of a path; empty where none is named.
+/// Copies a path; empty where none is named.
 fn text_or_empty(alloc: Global, path: &Option<String>) -> Result<Text, OutOfMemory>
     ensures { IfOk result (λ text. text ≡ unwrap_or (option_map string_bytes path.now) []) }
 {
@@ -66,8 +66,8 @@ fn text_or_empty(alloc: Global, path: &Option<String>) -> Result<Text, OutOfMemo
 }
 
 impl Words {
-    /// What a command line puts on its page: the paths, the zone file's empty where none is named, and whether the
-    /// report is left out.
+    /// Copies what the line puts on its page: the paths, empty for a zone file that isn't named, and whether the
+    /// report's text is left out.
     fn of(alloc: Global, asked: &PageAsked) -> Result<Words, OutOfMemory>
         ensures { IfOk result (λ words. words ≡ words_asked asked.now) }
     {
@@ -79,8 +79,8 @@ impl Words {
         })
     }
 
-    /// The bytes of a report that go on the page: none where only states are shown or there are more than
-    /// 134,217,728.
+    /// Gives the report's text as the page has it: all of it, or nothing where only states are shown or it is longer
+    /// than 134,217,728 bytes.
     fn report_as_shown<'a>(&self, report: &'a [u8]) -> &'a [u8]
         ensures { result.now ≡ report_shown self.now.states_only report.entry.now }
     {
@@ -92,8 +92,8 @@ impl Words {
     }
 }
 
-/// Writes the page of a report beside its plan and graph file. `times` is the text of a journal's times, empty for
-/// none. OutOfMemory also where the page is too long to count.
+/// Writes the page of a report with its plan and graph file. `times` is the text of a journal's times, empty for none.
+/// `Err` where `out` fails, or `OutOfMemory` at want of memory or for a page too long to count its bytes.
 fn write_report_page<W: Write>(
     alloc: Global,
     words: &Words,
@@ -131,9 +131,9 @@ fn write_report_page<W: Write>(
     Ok(())
 }
 
-/// Writes the page of a report beside its plan and graph file, with the times of the journal at the path `journal`,
-/// where one is named. Refuses a report or a journal of another graph.
-fn write_page_beside<S: Source, W: Write>(
+/// Writes the page of a report, with the times of the journal at the path `journal` where one is named. `Err` where
+/// report or journal is of another graph, the journal can't be read, `out` fails, or memory runs out.
+fn write_page_if_matching<S: Source, W: Write>(
     alloc: Global,
     words: &Words,
     planned: &Planned,
@@ -163,9 +163,9 @@ fn write_page_beside<S: Source, W: Write>(
     Ok(Status::Success)
 }
 
-/// Does the command `page`: reads the files and checks the graph, reads the report, and the journal where one is
-/// named, and writes the page. Refuses a report or a journal of another graph. The report may be of `single`, and of
-/// any range.
+/// Does `page`: writes a page that shows a report of the graph, of `single` or of any range, with the times of a
+/// journal where one is named. `Err` where the graph, the report or the journal is refused, checked in this order; also
+/// where `out` fails or memory runs out. At `Err`, `out` got nothing but the bytes that `CannotWrite` counts.
 pub fn answer_page<S: Source, W: Write>(
     alloc: Global,
     asked: PageAsked,
@@ -184,7 +184,15 @@ pub fn answer_page<S: Source, W: Write>(
     let words = Words::of(alloc, &asked)?;
     let planned = read_plan(alloc, asked.graph, files)?;
     let report = read_report_file(alloc, asked.report, files)?;
-    let written = write_page_beside(alloc, &words, &planned, &report, asked.journal, files, out);
+    let written = write_page_if_matching(
+        alloc,
+        &words,
+        &planned,
+        &report,
+        asked.journal,
+        files,
+        out,
+    );
     drop(report);
     drop(planned);
     written

@@ -13,15 +13,15 @@ use bf_plan::Plan;
 use bf_planning::timed_plan_in;
 use std::alloc::Global;
 
-/// The bytes of a graph file, and the plan that they say.
+/// The bytes of a graph file, and the plan made of them.
 #[derive(Drop)]
 pub(crate) struct Planned {
     pub(crate) graph: Vec<u8>,
     pub(crate) plan: Plan,
 }
 
-/// Reads the graph file, and the zone file where one is named, and checks the graph. A fault where a file can't be
-/// read, or the graph has one.
+/// Reads the graph file, and the zone file where one is named, and makes the plan. `Err` where a file can't be read,
+/// the graph is refused, or memory runs out.
 pub(crate) fn read_plan<S: Source>(
     alloc: Global,
     asked: GraphAsked,

@@ -7,7 +7,7 @@ use bf_report::{Report, write_report};
 use bf_value::OutOfMemory;
 use std::alloc::Global;
 
-/// The text of a report, byte for byte as its file has it.
+/// Writes a report to memory, byte for byte as its file has it.
 pub(crate) fn report_bytes(alloc: Global, report: &Report) -> Result<Vec<u8>, OutOfMemory>
     ensures { IfOk result (λ bytes. bytes.items ≡ report_text report.now) }
 {

@@ -25,7 +25,7 @@ use bf_plan::Plan;
 use bf_report::Report;
 use std::alloc::Global;
 
-/// Whether a grid has colours: as the command line says, or where it says `auto` as the canvas has it.
+/// Whether a grid has colours: as the line says, or as the canvas does for `auto`.
 fn is_colored(color: Color, canvas: Canvas) -> bool
     ensures { result ≡ is_colored_in color canvas.colored }
 {
@@ -36,8 +36,8 @@ fn is_colored(color: Color, canvas: Canvas) -> bool
     }
 }
 
-/// What a grid shows and how: as the command line says, within its bounds; width and colours where it doesn't say are
-/// the canvas's.
+/// What a grid shows and how: the runs within `bounds`, only failures where the line says so, and the width and colours
+/// of the line, or else of the canvas.
 fn view_of(asked: &ShowAsked, bounds: &Bounds, canvas: Canvas) -> View
     ensures { result ≡ view_asked asked.now bounds.now canvas }
 {
@@ -50,7 +50,7 @@ fn view_of(asked: &ShowAsked, bounds: &Bounds, canvas: Canvas) -> View
     }
 }
 
-/// Writes the grid of a report beside its plan, as a view has it.
+/// Writes the grid of a report as `view` has it. `Err` where `out` fails, or at want of memory.
 fn write_viewed<W: Write>(
     alloc: Global,
     view: &View,
@@ -70,8 +70,9 @@ fn write_viewed<W: Write>(
     Ok(())
 }
 
-/// Writes the grid of a report beside its plan, as a view has it. Refuses a report of another graph.
-fn write_grid_beside<W: Write>(
+/// Writes the grid of a report as `view` has it. `Err` where the report is of another graph, `out` fails, or memory
+/// runs out.
+fn write_grid_if_matching<W: Write>(
     alloc: Global,
     view: &View,
     planned: &Planned,
@@ -97,8 +98,9 @@ fn write_grid_beside<W: Write>(
     Ok(Status::Success)
 }
 
-/// Does the command `show`: checks the moments, reads the files and checks the graph, reads the report, and writes
-/// the grid. The report may be of any range. Width and colours are the command line's, or else the canvas's.
+/// Does `show`: writes the grid of a report of the graph, of any range; `canvas` has width and colours where the line
+/// doesn't. `Err` where a moment, the graph, the order of the moments, or the report is refused, checked in this order;
+/// also where `out` fails or memory runs out. At `Err`, `out` got nothing but the bytes that `CannotWrite` counts.
 pub fn answer_show<S: Source, W: Write>(
     alloc: Global,
     asked: ShowAsked,
@@ -120,7 +122,7 @@ pub fn answer_show<S: Source, W: Write>(
     let planned = read_plan(alloc, asked.graph, files)?;
     bounds.refuse_reversed()?;
     let report = read_report_file(alloc, asked.report, files)?;
-    let written = write_grid_beside(alloc, &view, &planned, &report, out);
+    let written = write_grid_if_matching(alloc, &view, &planned, &report, out);
     drop(report);
     drop(planned);
     written

@@ -17,7 +17,7 @@ use bf_times::times_of;
 use bf_value::OutOfMemory;
 use std::alloc::Global;
 
-/// The runs over the data intervals of a report.
+/// Makes runs of the data intervals of a report's runs.
 fn runs_of(alloc: Global, report: &Report) -> Result<Runs, OutOfMemory>
     requires { IsShownReport report.now }
     ensures { IfOk result (λ runs. runs ≡ intervals_in report.now.runs) }
@@ -26,8 +26,8 @@ fn runs_of(alloc: Global, report: &Report) -> Result<Runs, OutOfMemory>
     Ok(Runs::from_intervals(intervals))
 }
 
-/// The text of the times in a journal with these bytes; empty where there is no journal. A fault where it isn't of
-/// this plan and the report's runs.
+/// Gives the times of the tries in a journal's bytes, as text for the page; empty where there is no journal. `Err`
+/// where the journal isn't of this plan and the report's runs, or at want of memory.
 fn times_in(
     alloc: Global,
     plan: &Plan,
@@ -50,8 +50,8 @@ fn times_in(
     }
 }
 
-/// Reads the journal at `path`, and gives the text of the times of its tries; empty where no journal is named. A
-/// fault where it can't be read, or isn't of this plan and the report's runs.
+/// Reads the journal at `path`, and gives the times of its tries as text for the page; empty where no journal is named.
+/// `Err` where it can't be read, isn't of this plan and the report's runs, or memory runs out.
 pub(crate) fn read_times<S: Source>(
     alloc: Global,
     path: Option<String>,

@@ -10,8 +10,8 @@ use std::cmp::Reverse;
 use std::collections::BinaryHeap;
 use std::marker::Model;
 
-/// Instances of a task in a run, some of which may wait: those from one place to another. The greatest begins
-/// first: by weight, then the earlier run, the earlier task and the earlier place.
+/// Instances of a task in a run, from the place `first` to the place `last`, of which some may wait. The greatest batch
+/// begins first: by weight, then the earlier run, the earlier task and the earlier place.
 #[derive(Clone, Copy, Debug, PartialEq, Eq, PartialOrd, Ord)]
 pub(crate) struct Batch {
     pub weight: u32,
@@ -21,7 +21,7 @@ pub(crate) struct Batch {
     pub last: u32,
 }
 
-/// Batches, of which the greatest is at hand. One may be there twice.
+/// A heap of batches with the greatest on top. A batch may be there twice.
 #[derive(Drop)]
 pub(crate) struct Batches {
     heap: BinaryHeap<Batch>,
@@ -45,7 +45,7 @@ impl Model for Batches {
 }
 
 impl Batches {
-    /// No batches.
+    /// An empty heap of batches.
     pub(crate) fn new(alloc: Global) -> Batches
         ensures { result.items ≡ [] }
     {
@@ -54,7 +54,7 @@ impl Batches {
         }
     }
 
-    /// Makes room for so many more batches.
+    /// Makes room for `more` batches more. The batches stay as they are, at `Err` too.
     pub(crate) fn make_room(&mut self, more: usize) -> Result<(), OutOfMemory>
         ensures same { self.new.items ≡ self.old.items }
         ensures grown { self.old.room ≤ self.new.room }
@@ -64,7 +64,7 @@ impl Batches {
         Ok(())
     }
 
-    /// The greatest batch, whose first try begins before all others; None where there is none.
+    /// The greatest batch, which begins before all others; None where there is none.
     pub(crate) fn first(&self) -> Option<Batch>
         ensures top { result ≡ slice_get self.now.items 0 }
         ensures one { IfSome result (λ x. Contains self.now.items x) }

@@ -25,7 +25,8 @@ use std::alloc::Global;
 use std::cmp::Reverse;
 use std::marker::Model;
 
-/// The tasks of one pool that take as many of its slots, and those of their instances that wait.
+/// The tasks that take the same number of slots of one pool, so that all have room or none has, and their instances
+/// that wait.
 #[derive(Drop)]
 pub(crate) struct SlotClass {
     /// One of the tasks.
@@ -49,7 +50,8 @@ impl Model for SlotClass {
     ghost invariant = { λ c. IsRoomy c.batches c.delays };
 }
 
-/// A batch of one instance of a task in a run, at `place`, from 0. `weights` has the total weight of each task.
+/// A batch of a single instance: the one at `place`, from 0, of a task in a run. `weights` has the total weight of each
+/// task.
 fn batch_of_one(weights: &[u32], run: u32, task: u32, place: u32) -> Batch
     ensures { result ≡ batch_of weights.now run task place }
 {
@@ -62,7 +64,7 @@ fn batch_of_one(weights: &[u32], run: u32, task: u32, place: u32) -> Batch
     }
 }
 
-/// A batch of a task's first instances in a run, up to the one at `place`, from 0, this one included. `weights` has
+/// A batch of a task's instances in a run, from the first to the one at `place`, from 0, both included. `weights` has
 /// the total weight of each task.
 fn batch_to_place(weights: &[u32], run: u32, task: u32, place: usize) -> Batch
     requires { place ≤ 1_024 }
@@ -74,7 +76,7 @@ fn batch_to_place(weights: &[u32], run: u32, task: u32, place: usize) -> Batch
     }
 }
 
-/// Moves the delays whose moment is at most `now`, in seconds since 1970, to the batches, each as one of its own.
+/// Moves the delays whose moment is at most `now`, in seconds since 1970, to the batches, each as a batch of its own.
 /// `weights` has the total weight of each task.
 fn batch_due_delays(batches: &mut Batches, delays: &mut Delays, weights: &[u32], now: i64)
     requires { IsRoomy batches.old delays.old }
@@ -134,7 +136,7 @@ fn pass_over_unready(batches: &mut Batches, core: &Core<'_>)
 }
 
 impl SlotClass {
-    /// A class, of the tasks that take the same slots as this one, of which nothing waits.
+    /// The class of the tasks that take the same slots as `task`. No instance waits in it.
     pub(crate) fn new(alloc: Global, task: u32) -> SlotClass
         ensures task { result.task ≡ task }
         ensures batches { result.batches.items ≡ [] }
@@ -147,7 +149,7 @@ impl SlotClass {
         }
     }
 
-    /// The greatest of its batches; None where it has none.
+    /// The greatest batch of the class; None where it has none.
     pub(crate) fn first(&self) -> Option<Batch>
         ensures top { result ≡ slice_get self.now.batches.items 0 }
         ensures first { IfSome result (λ x. (y : Batch) → Contains self.now.batches.items y
@@ -156,7 +158,7 @@ impl SlotClass {
         self.batches.first()
     }
 
-    /// The earliest of the moments for which its instances wait, in seconds since 1970; None where none waits for
+    /// The earliest moment for which an instance of the class waits, in seconds since 1970; None where none waits for
     /// one.
     pub(crate) fn earliest_moment(&self) -> Option<i64>
         ensures one { IfSome result (λ m. (d : Delay) × Contains self.now.delays.items d
@@ -171,7 +173,7 @@ impl SlotClass {
         }
     }
 
-    /// Makes room for one more instance that waits.
+    /// Makes room for one more instance that waits. What waits stays as it is, at `Err` too.
     pub(crate) fn make_room(&mut self) -> Result<(), OutOfMemory>
         ensures task { self.new.task ≡ self.old.task }
         ensures batches { self.new.batches.items ≡ self.old.batches.items }
@@ -213,7 +215,7 @@ impl SlotClass {
         batch_due_delays(&mut self.batches, &mut self.delays, weights, now);
     }
 
-    /// Takes instances that aren't ready off the front of its batches, until the greatest batch begins with a ready
+    /// Takes instances that aren't ready off the front of the class's batches, until the greatest begins with a ready
     /// one or none is left. A ready instance waits for nothing but room in its pool.
     fn pass_over_unready(&mut self, core: &Core<'_>)
         ensures task { self.new.task ≡ self.old.task }
@@ -223,7 +225,8 @@ impl SlotClass {
         pass_over_unready(&mut self.batches, core);
     }
 
-    /// Adds all instances that a task has in a run as one batch, in which the delayed ones aren't ready.
+    /// Adds all instances that a task has in a run as one batch, whether they are ready or not; nothing where it has
+    /// none. `weights` has the total weight of each task.
     fn batch_all(&mut self, core: &Core<'_>, weights: &[u32], run: u32, task: u32)
         requires { HasRoom self.old }
         ensures task { self.new.task ≡ self.old.task }
@@ -266,7 +269,7 @@ impl SlotClass {
         }
     }
 
-    /// Adds the instance at `place`, from 0, of a task in a run to the delays, where it waits for a later moment.
+    /// Adds the instance at `place`, from 0, of a task in a run to the delays, if it waits for a later moment.
     fn delay_instance(
         &mut self,
         core: &Core<'_>,
@@ -291,7 +294,7 @@ impl SlotClass {
         Ok(())
     }
 
-    /// Adds the delayed instances that a task has in a run to the delays.
+    /// Adds those instances of a task in a run that wait for a later moment to the delays.
     fn delay_all(&mut self, core: &Core<'_>, run: u32, task: u32) -> Result<(), OutOfMemory>
         ensures task { self.new.task ≡ self.old.task }
         ensures batches { self.new.batches.items ≡ self.old.batches.items }
@@ -305,7 +308,8 @@ impl SlotClass {
         Ok(())
     }
 
-    /// Adds all instances that a task has in a run, to the batches and, where delayed, to the delays.
+    /// Adds all instances that a task has in a run: to the batches, and those that wait for a later moment to the
+    /// delays too. `weights` has the total weight of each task.
     pub(crate) fn take_up_all(
         &mut self,
         core: &Core<'_>,

@@ -9,7 +9,7 @@ use std::cmp::Reverse;
 use std::collections::BinaryHeap;
 use std::marker::Model;
 
-/// An instance that waits for a moment, in seconds since 1970. The greatest is the one of the earliest moment.
+/// An instance that waits for a moment, in seconds since 1970. The greatest delay is the one of the earliest moment.
 #[derive(Clone, Copy, Debug, PartialEq, Eq, PartialOrd, Ord)]
 pub(crate) struct Delay {
     pub moment: Reverse<i64>,
@@ -18,7 +18,7 @@ pub(crate) struct Delay {
     pub place: u32,
 }
 
-/// Delays, of which one of the earliest moment is at hand.
+/// A heap of delays with one of the earliest moment on top.
 #[derive(Drop)]
 pub(crate) struct Delays {
     heap: BinaryHeap<Delay>,
@@ -42,7 +42,7 @@ impl Model for Delays {
 }
 
 impl Delays {
-    /// No delays.
+    /// An empty heap of delays.
     pub(crate) fn new(alloc: Global) -> Delays
         ensures { result.items ≡ [] }
     {
@@ -51,7 +51,7 @@ impl Delays {
         }
     }
 
-    /// How many there are.
+    /// How many delays there are.
     pub(crate) fn len(&self) -> usize
         ensures len { result ≡ length self.now.items }
         ensures few { result < 2 ^ 63 }
@@ -59,7 +59,7 @@ impl Delays {
         self.heap.len()
     }
 
-    /// Makes room for so many more delays.
+    /// Makes room for `more` delays more. The delays stay as they are, at `Err` too.
     pub(crate) fn make_room(&mut self, more: usize) -> Result<(), OutOfMemory>
         ensures same { self.new.items ≡ self.old.items }
         ensures grown { self.old.room ≤ self.new.room }
@@ -69,7 +69,7 @@ impl Delays {
         Ok(())
     }
 
-    /// A delay of the earliest moment, if there is one.
+    /// A delay of the earliest moment; None where there is none.
     pub(crate) fn first(&self) -> Option<Delay>
         ensures top { result ≡ slice_get self.now.items 0 }
         ensures one { IfSome result (λ x. Contains self.now.items x) }

@@ -7,7 +7,7 @@ ghost use Rattle.bf_waiting.specs.inner.Standings.{Stands};
 
 use bf_core::{Cell, Core, Instance, Phase, name_of};
 
-/// How an instance stands.
+/// Whether an instance waits, and for what.
 #[derive(Clone, Copy)]
 pub(crate) enum Standing {
     /// It doesn't wait, or isn't there.
@@ -43,8 +43,8 @@ pub fn instances_of<'c>(core: &'c Core<'_>, run: u32, task: u32) -> &'c [Instanc
     }
 }
 
-/// Whether the instance at `place`, from 0, of a task in a run waits for nothing but room in its pool, waits for a
-/// later moment, or doesn't wait.
+/// How `instance`, which is at `place`, from 0, of a task in a run, stands: it waits for nothing but room in its pool,
+/// or for a later moment, or doesn't wait.
 fn standing_of(core: &Core<'_>, run: u32, task: u32, place: u32, instance: &Instance) -> Standing
     requires few { place ≤ 1_024 }
     requires held { instance_of (cell_at core.now.state run task) place ≡ Some instance.now }
@@ -66,8 +66,8 @@ fn standing_of(core: &Core<'_>, run: u32, task: u32, place: u32, instance: &Inst
     }
 }
 
-/// Whether the instance at `place`, from 0, of a task in a run waits for nothing but room in its pool or for a later
-/// moment; `Away` where it doesn't wait, or isn't there.
+/// How the instance at `place`, from 0, of a task in a run stands: it waits for nothing but room in its pool, or for a
+/// later moment; `Away` where it doesn't wait, or isn't there.
 pub(crate) fn standing_at(core: &Core<'_>, run: u32, task: u32, place: u32) -> Standing
     ensures { Stands core.now run task place result }
 {

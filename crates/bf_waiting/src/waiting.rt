@@ -25,8 +25,7 @@ use bf_plan::Plan;
 use bf_value::{JobName, OutOfMemory};
 use std::alloc::Global;
 
-/// The tries of a backfill that wait, kept over its events: those that wait for room in a pool, and those of later
-/// moments.
+/// The tries of a backfill that wait, for room in a pool or for a later moment, kept up to date over its events.
 #[derive(Drop)]
 pub struct Waiting {
     /// The total weight of each task.
@@ -37,7 +36,7 @@ pub struct Waiting {
     pub(crate) classes: Vec<SlotClass>,
 }
 
-/// Whether two tasks take as many slots of the same pool.
+/// Whether two tasks take the same number of slots of the same pool.
 fn take_same_slots(plan: &Plan, one: u32, other: u32) -> bool
     requires one { one < length plan.now.dag.tasks }
     requires other { other < length plan.now.dag.tasks }
@@ -50,8 +49,8 @@ fn take_same_slots(plan: &Plan, one: u32, other: u32) -> bool
     one.pool == other.pool && one.slots == other.slots
 }
 
-/// The place, from 0, of the first class whose tasks take as many slots of the same pool as this one; None where
-/// there is none. No clause says that it is the first, or when it is None.
+/// The place, from 0, of the first class whose tasks take the same slots as `task`; None where there is none. No clause
+/// says that it is the first, or when it is None.
 fn find_class_for(plan: &Plan, classes: &[SlotClass], task: u32) -> Option<usize>
     requires task { task < length plan.now.dag.tasks }
     requires empty { AreEmpty plan.now.dag classes.now }
@@ -65,8 +64,8 @@ fn find_class_for(plan: &Plan, classes: &[SlotClass], task: u32) -> Option<usize
     None
 }
 
-/// The place in `classes`, from 0, of the class of a task, whose tasks take as many slots of the same pool. Adds a
-/// class where none fits.
+/// The place in `classes`, from 0, of the class whose tasks take the same slots as `task`. Adds that class where it is
+/// missing.
 fn find_or_add_class(
     alloc: Global,
     plan: &Plan,
@@ -91,7 +90,7 @@ fn find_or_add_class(
 }
 
 impl Waiting {
-    /// What waits in a core now: the tries that wait for a worker, for room in a pool, or for a moment.
+    /// Finds the tries that wait in a core now: for a worker, for room in a pool, or for a moment.
     pub fn new(alloc: Global, core: &Core<'_>) -> Result<Waiting, OutOfMemory>
         ensures { IfOk result (λ w. KeepsTries core.now w) }
     {
@@ -100,7 +99,7 @@ impl Waiting {
         Ok(waiting)
     }
 
-    /// The classes of the tasks of a plan, of which nothing waits.
+    /// The classes of the plan's tasks, in which no instance waits yet.
     fn empty(alloc: Global, plan: &Plan) -> Result<Waiting, OutOfMemory>
         ensures weights { IfOk result (λ w. AreWeights plan.now.dag plan.now.limits
             w.weights.items) }
@@ -121,7 +120,7 @@ impl Waiting {
         })
     }
 
-    /// Adds all that waits in a core.
+    /// Adds all instances in the core that wait.
     fn fill(&mut self, core: &Core<'_>) -> Result<(), OutOfMemory>
         requires { AreFilled core.now self.old 0 0 }
         ensures { OnOk result (KeepsTries core.now self.new) }
@@ -133,7 +132,7 @@ impl Waiting {
         Ok(())
     }
 
-    /// Adds all that waits in a run.
+    /// Adds all instances of a run that wait.
     fn fill_run(&mut self, core: &Core<'_>, run: u32) -> Result<(), OutOfMemory>
         requires { AreFilled core.now self.old run 0 }
         ensures { OnOk result (AreFilled core.now self.new (run + 1) 0) }
@@ -145,7 +144,7 @@ impl Waiting {
         Ok(())
     }
 
-    /// Adds all that waits of a task in a run.
+    /// Adds the instances of a task in a run that wait; nothing where there is no such task.
     fn fill_task(&mut self, core: &Core<'_>, run: u32, task: u32) -> Result<(), OutOfMemory>
         requires task { task < length core.now.dag.tasks }
         requires filled { AreFilled core.now self.old run task }
@@ -244,7 +243,7 @@ pub fn earlier_moment(soonest: Option<i64>, found: Option<i64>) -> Option<i64>
     }
 }
 
-/// The earliest of the moments for which tries of these classes wait; None where none waits for one.
+/// The earliest moment for which a try of these classes waits, in seconds since 1970; None where none waits for one.
 fn earliest_moment_of(classes: &[SlotClass]) -> Option<i64>
     ensures { IsSoonestOf classes.now result }
 {
@@ -256,8 +255,8 @@ fn earliest_moment_of(classes: &[SlotClass]) -> Option<i64>
 }
 
 impl Waiting {
-    /// The try that begins next: of those that may begin now the one of the greatest total weight, and of several the
-    /// first by run, in the order of the file and by map index. None where none may begin now.
+    /// The try to begin next: of those that may begin now, the one of the greatest total weight, and among equals the
+    /// first by run, in file order and by map index. None where none may begin now.
     pub fn next_try(&self, core: &Core<'_>) -> Option<JobName>
         ensures { KeepsTries core.now self.now → IsNextTry core.now result }
     {
@@ -267,7 +266,7 @@ impl Waiting {
         }
     }
 
-    /// The least of the later moments for which tries wait, in seconds since 1970; None where none waits for one.
+    /// The earliest moment still to come for which a try waits, in seconds since 1970; None where no try waits for one.
     pub fn next_moment(&self) -> Option<i64>
         ensures { (b : Backfill) → KeepsTries b self.now → IsNextMoment b result }
     {
@@ -275,8 +274,8 @@ impl Waiting {
     }
 }
 
-/// The task whose instances an event may let wait: that which it decides, or of which it ends a try. None for other
-/// events.
+/// The task of which an event may let an instance wait: the one that it decides, or of which it ends a try. None for
+/// other events.
 fn task_let_wait_by(event: &Event) -> Option<u32>
     ensures { (w : Waiting) → MatchOption result (HasRoomFor event.now w)
         (λ t. HasRoomOf t w → HasRoomFor event.now w) }
@@ -289,7 +288,8 @@ fn task_let_wait_by(event: &Event) -> Option<u32>
 }
 
 impl Waiting {
-    /// Makes room for what an event that may come lets wait. It is called before the event comes.
+    /// Makes room for the instances that `event` may let wait; called before the event comes. What waits stays up to
+    /// date, at `Err` too.
     pub fn make_room(&mut self, event: &Event) -> Result<(), OutOfMemory>
         ensures kept { (b : Backfill) → KeepsTries b self.old → KeepsTries b self.new }
         ensures room { OnOk result (HasRoomFor event.now self.new) }
@@ -300,7 +300,8 @@ impl Waiting {
         self.make_room_of(task)
     }
 
-    /// Makes room for one more instance of a task that waits; nothing where there is no such task.
+    /// Makes room for one more instance of a task that waits; does nothing where there is no such task. What waits
+    /// stays up to date, at `Err` too.
     fn make_room_of(&mut self, task: u32) -> Result<(), OutOfMemory>
         ensures kept { (b : Backfill) → KeepsTries b self.old → KeepsTries b self.new }
         ensures room { OnOk result (HasRoomOf task self.new) }

@@ -7,7 +7,7 @@ use bf_pool::total_weight;
 use bf_value::OutOfMemory;
 use std::alloc::Global;
 
-/// The total priority weight of each task, by its weight rule, in the order of the file.
+/// The total priority weight of each task in file order, by the task's weight rule (Airflow's `weight_rule`).
 pub fn total_weights_of(alloc: Global, plan: &Plan) -> Result<Vec<u32>, OutOfMemory>
     ensures { IfOk result (λ ws. AreWeights plan.now.dag plan.now.limits ws.items) }
 {

@@ -12,7 +12,7 @@ use bf_wording::count_text;
 use bf_xcom::{Outcome, TaskResult};
 use std::alloc::Global;
 
-/// How an instance ended, as the end of `it ..`: `was a success`, `failed` or `was skipped`.
+/// How an instance ended, as the end of a sentence: `was a success`, `failed` or `was skipped`.
 fn outcome_text(outcome: &Outcome) -> &'static str
     ensures { result.now ≡ came_of_outcome_of outcome.now }
 {
@@ -23,8 +23,8 @@ fn outcome_text(outcome: &Outcome) -> &'static str
     }
 }
 
-/// How a task that isn't expanded ended, by its one result, as `failed`. Contracts say nothing of no result or
-/// several.
+/// How a task that isn't expanded ended, as the end of a sentence, from `results`, its one result. The contract says
+/// nothing of other lengths.
 fn result_text(results: &[TaskResult]) -> &'static str
     ensures { (instance : InstanceReport) → results.now ≡ instance.result ∷ [] → result.now
         ≡ came_of_outcome_of instance.result.outcome }
@@ -35,7 +35,7 @@ fn result_text(results: &[TaskResult]) -> &'static str
     }
 }
 
-/// How an expanded task ended, as `came to 3 instances (2 success, 1 failed)`.
+/// How an expanded task ended, as the end of a sentence, such as `came to 3 instances (2 success, 1 failed)`.
 fn came_to_text(alloc: Global, instances: usize, counts: &Counts) -> Result<Text, OutOfMemory>
     ensures { IfOk result (λ text. text ≡ came_to_text_of instances counts.now) }
 {
@@ -44,7 +44,7 @@ fn came_to_text(alloc: Global, instances: usize, counts: &Counts) -> Result<Text
     Ok(Text::new(format!(in alloc; "came to {instances} ({counts})")?))
 }
 
-/// How a task ended in a run, as the end of `it ..`: `was skipped`, or `came to 3 instances (3 success)`.
+/// How a task ended in a run, as the end of a sentence, such as `was skipped` or `came to 3 instances (3 success)`.
 fn settled_came_text(alloc: Global, task: &Settled<'_>) -> Result<Text, OutOfMemory>
     ensures { IfOk result (λ text. text ≡ came_of (Some task.now)) }
 {
@@ -57,7 +57,8 @@ fn settled_came_text(alloc: Global, task: &Settled<'_>) -> Result<Text, OutOfMem
     }
 }
 
-/// How a task ended in a run, as the end of `it ..`, as `was skipped`; `had no status` where `task` is None.
+/// How a task ended in a run, as the end of a sentence, such as `was skipped`; it is `had no status` where `task` is
+/// None.
 pub(crate) fn came_text(alloc: Global, task: Option<&Settled<'_>>) -> Result<Text, OutOfMemory>
     ensures { IfOk result (λ text. text ≡ came_of (option_map (λ t. t.now) task.entry)) }
 {

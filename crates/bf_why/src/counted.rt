@@ -8,7 +8,7 @@ use bf_value::{OutOfMemory, Text};
 use bf_wording::{push_separated, text_of_number};
 use std::alloc::Global;
 
-/// A count and its state, as `2 success`.
+/// A count and its state, such as `2 success`.
 fn state_count_text(alloc: Global, count: u32, state: &str) -> Result<Text, OutOfMemory>
     ensures { IfOk result (λ text. text ≡ number_text count ++ 32 ∷ state.now) }
 {
@@ -16,7 +16,7 @@ fn state_count_text(alloc: Global, count: u32, state: &str) -> Result<Text, OutO
     Ok(Text::new(format!(in alloc; "{count} {state}")?))
 }
 
-/// Adds the text of a count and its state, as `2 success`, to `parts`; nothing where the count is 0.
+/// Adds a count and its state, such as `2 success`, to `parts`; adds nothing where the count is 0.
 fn add_state_count(
     alloc: Global,
     parts: &mut Vec<Text>,
@@ -31,8 +31,8 @@ fn add_state_count(
     Ok(())
 }
 
-/// How many instances are in each state, as `2 success, 1 failed`. States without an instance are left out, and
-/// unfinished ones always.
+/// How many instances are in each state, such as `2 success, 1 failed`. It leaves out states without an instance, and
+/// always the unfinished ones.
 pub fn counts_text(alloc: Global, counts: &Counts) -> Result<Text, OutOfMemory>
     ensures { IfOk result (λ text. text ≡ counts_text_of counts.now) }
 {

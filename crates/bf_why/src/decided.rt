@@ -20,7 +20,7 @@ use bf_value::{OutOfMemory, Text};
 use bf_wording::one_line;
 use std::alloc::Global;
 
-/// The tasks directly upstream of a task.
+/// The numbers of the tasks directly upstream of task number `task`.
 fn upstreams_of(plan: &Plan, task: u32) -> &[u32]
     requires { task < length plan.now.dag.tasks }
     ensures { result.now ≡ (task_of plan.now.dag task).upstreams }
@@ -28,7 +28,8 @@ fn upstreams_of(plan: &Plan, task: u32) -> &[u32]
     plan.dag().task(task).upstreams.as_slice()
 }
 
-/// A sentence for each branch directly upstream that succeeded and doesn't follow the task, so that it is skipped.
+/// A sentence for each branch directly upstream that succeeded and doesn't follow the task, which skips it. `settled`
+/// are the tasks of the run.
 fn lines_by_branches(
     alloc: Global,
     plan: &Plan,
@@ -42,7 +43,8 @@ fn lines_by_branches(
     branch_sentences(alloc, plan, settled, upstreams_of(plan, task), task)
 }
 
-/// The one sentence that names the branches directly upstream without a status, for which a task has none.
+/// The one sentence that names the branches directly upstream without a status, which leave the task without one.
+/// `settled` are the tasks of the run.
 fn lines_by_blocked_branches(
     alloc: Global,
     plan: &Plan,
@@ -57,7 +59,8 @@ fn lines_by_blocked_branches(
     one_line(alloc, blocked_branches_sentence(alloc, names.as_slice())?)
 }
 
-/// The one sentence that names the tasks directly upstream without a status, for which a task has none.
+/// The one sentence that names the tasks directly upstream without a status, which leave the task without one.
+/// `settled` are the tasks of the run.
 fn lines_by_blocked_tasks(
     alloc: Global,
     plan: &Plan,
@@ -73,7 +76,8 @@ fn lines_by_blocked_tasks(
     one_line(alloc, blocked_upstreams_sentence(alloc, names.as_slice())?)
 }
 
-/// The one sentence on what a task's trigger rule says, which is this verdict. `settled` are the tasks of the run.
+/// The one sentence that a task's trigger rule gives this verdict, and on what ground. `settled` are the tasks of the
+/// run.
 fn lines_by_rule(
     alloc: Global,
     plan: &Plan,
@@ -88,8 +92,8 @@ fn lines_by_rule(
     one_line(alloc, ruled_text(alloc, plan, settled, task, verdict)?)
 }
 
-/// A sentence on the rule of a task, which lets it run, and one on its past where it depends on it. `before` is the
-/// run before and `settled_before` its tasks, none for the first run.
+/// The sentence that a task's trigger rule lets it run and, where it depends on its past, the one on how it ended in
+/// the run before. `before` is that run, None for the first run, and `settled_before` its tasks.
 fn lines_by_past(
     alloc: Global,
     plan: &Plan,
@@ -109,8 +113,8 @@ fn lines_by_past(
     Ok(lines)
 }
 
-/// Sentences on the rule of a task, which lets it run, on its past where it depends on it, and on its source where it
-/// is expanded. `before` is the run before and `settled_before` its tasks, none for the first run.
+/// Sentences that a task's trigger rule lets it run, on its past where it depends on that, and on the items that it is
+/// expanded over where it is. `before` is the run before, None for the first run, and `settled_before` its tasks.
 fn lines_by_source(
     alloc: Global,
     plan: &Plan,
@@ -132,8 +136,8 @@ fn lines_by_source(
     Ok(lines)
 }
 
-/// The sentences on why the graph decides for this cause what it does of a task. `settled` are the tasks of its run,
-/// `before` is the run before and `settled_before` its tasks, none for the first run.
+/// Sentences on why the graph decides for this cause what becomes of a task. `settled` are the tasks of its run;
+/// `before` is the run before, None for the first run, and `settled_before` its tasks.
 pub(crate) fn decided_lines(
     alloc: Global,
     plan: &Plan,

@@ -9,7 +9,7 @@ use bf_value::{OutOfMemory, Text};
 use bf_wording::{add_lines, add_moved_line, count_text, one_line};
 use std::alloc::Global;
 
-/// The sentence that a task would have run by this graph, with `count` instances where it is expanded.
+/// The sentence that a task would have run by this graph: as `count` instances where it is expanded, else as one.
 fn would_run_text(alloc: Global, is_expanded: bool, count: usize) -> Result<Text, OutOfMemory>
     ensures { IfOk result (λ text. text ≡ would_run_text_of is_expanded count) }
 {
@@ -22,7 +22,7 @@ fn would_run_text(alloc: Global, is_expanded: bool, count: usize) -> Result<Text
     }
 }
 
-/// The sentence on the state that this graph gives a task for this cause, as `By this graph it would be skipped:`.
+/// The sentence on what this graph makes of a task for this cause, such as `By this graph it would be skipped:`.
 fn would_be_text(alloc: Global, is_expanded: bool, cause: StateCause) -> Result<Text, OutOfMemory>
     ensures { IfOk result (λ text. text ≡ would_be_text_of is_expanded cause) }
 {
@@ -44,15 +44,15 @@ fn would_be_text(alloc: Global, is_expanded: bool, cause: StateCause) -> Result<
     }
 }
 
-/// Whether the report has of a task, as `told`, what this graph doesn't decide for this cause, so that its letter is
-/// a digit.
+/// Whether `told`, the report of a task, isn't what this graph decides for this cause; the task's letter is then a
+/// digit.
 pub fn is_foreign(is_expanded: bool, cause: StateCause, told: &Settled<'_>) -> bool
     ensures { result ≡ is_ascii_digit (letter_for is_expanded cause told.now) }
 {
     letter_by(is_expanded, cause, told).is_ascii_digit()
 }
 
-/// Two sentences: that the report's state of a task doesn't follow from this graph, and which would for this cause.
+/// Two sentences: that the report of a task doesn't follow from this graph, and what would follow for this cause.
 fn foreign_lines(
     alloc: Global,
     is_expanded: bool,
@@ -68,8 +68,8 @@ fn foreign_lines(
     Ok(lines)
 }
 
-/// Adds two sentences where `told`, which the report has of a task, isn't what this graph decides for this cause:
-/// that it isn't, and what would follow. Else adds nothing.
+/// Adds two sentences where `told`, the report of a task, isn't what this graph decides for this cause: that it doesn't
+/// follow, and what would. Adds nothing otherwise.
 pub(crate) fn add_foreign(
     alloc: Global,
     lines: &mut Vec<Text>,

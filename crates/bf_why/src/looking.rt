@@ -9,7 +9,7 @@ use bf_reason::Settled;
 use bf_value::Xval;
 use bf_xcom::TaskResult;
 
-/// The id of a task; empty where there is no such task.
+/// The id of task number `task`; empty where the graph has no such task.
 #[tactic(auto, unfolding(bf_plan::specs::Plans::task_of))]
 pub fn id_at(dag: &Dag, task: u32) -> &str
     ensures { result.now ≡ id_of dag.now task }
@@ -30,7 +30,8 @@ fn pushed_alone(results: &[TaskResult]) -> Option<&Xval>
     }
 }
 
-/// What the first instance of a task pushed; None where it pushed nothing or didn't run, or there is no such task.
+/// What the first instance of task number `task` pushed; None where it pushed nothing, the task didn't run, or
+/// `settled`, the tasks of the run, lacks it.
 pub fn first_pushed_by<'a>(settled: &'a [Settled<'_>], task: u32) -> Option<&'a Xval>
     ensures { option_copied result
         ≡ only_pushed_value_in (results_of (value_among settled.entry.now task)) }

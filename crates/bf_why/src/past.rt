@@ -11,7 +11,7 @@ use bf_report::RunReport;
 use bf_value::{OutOfMemory, Text};
 use std::alloc::Global;
 
-/// The sentence that a task depends on its past, and how it ended in the run before, of which `settled` are the
+/// The sentence that a task depends on its past, and how it ended in `before`, the run before. `settled` are that run's
 /// tasks.
 fn sentence_by_run(
     alloc: Global,
@@ -28,8 +28,8 @@ fn sentence_by_run(
     Ok(Text::new(text))
 }
 
-/// The sentence on the past of a task that depends on it: how it ended in the run `before`, of which `settled` are
-/// the tasks, or that there is none before the first run.
+/// The sentence that a task depends on its past, and how it ended in `before`, the run before, whose tasks are
+/// `settled`. Where that is None, it says that this is the first run.
 fn past_sentence(
     alloc: Global,
     before: Option<&RunReport>,
@@ -46,7 +46,7 @@ fn past_sentence(
     }
 }
 
-/// Whether a task depends on its past.
+/// Whether task number `task` depends on its past, as Airflow's `depends_on_past`.
 fn depends_on_past(plan: &Plan, task: u32) -> bool
     requires { task < length plan.now.dag.tasks }
     ensures { result ≡ (task_of plan.now.dag task).depends_on_past }
@@ -54,8 +54,8 @@ fn depends_on_past(plan: &Plan, task: u32) -> bool
     plan.dag().task(task).depends_on_past
 }
 
-/// Adds the sentence on a task's past where it depends on it, and else nothing. `before` is the run before and
-/// `settled` its tasks, none for the first run.
+/// Adds the sentence on the past of a task that depends on it; adds nothing for any other task. `before` is the run
+/// before, None for the first run, and `settled` its tasks.
 pub(crate) fn add_past(
     alloc: Global,
     lines: &mut Vec<Text>,

@@ -13,7 +13,7 @@ use bf_value::{OutOfMemory, Text};
 use bf_wording::count_text;
 use std::alloc::Global;
 
-/// How many instances the counts add up to, the unfinished ones too.
+/// How many instances the counts add up to, unfinished ones included.
 fn total(counts: &Counts) -> u64
     ensures { result ≡ total_of counts.now }
 {
@@ -25,8 +25,7 @@ fn total(counts: &Counts) -> u64
         + u64::from(counts.unfinished)
 }
 
-/// How many instances directly upstream there are and in which states, as `3 upstream instances (2 success, 1
-/// failed)`.
+/// How many upstream instances there are and in which states, such as `3 upstream instances (2 success, 1 failed)`.
 fn over_instances_text(alloc: Global, counts: &Counts) -> Result<Text, OutOfMemory>
     ensures { IfOk result (λ text. text ≡ over_instances_text_of counts.now) }
 {
@@ -35,8 +34,8 @@ fn over_instances_text(alloc: Global, counts: &Counts) -> Result<Text, OutOfMemo
     Ok(Text::new(format!(in alloc; "{over} ({counts})")?))
 }
 
-/// The sentence on what a task's trigger rule says, which is this verdict, over how many upstream instances in which
-/// states, and on what ground.
+/// The sentence that a task's trigger rule gives this verdict, with the states of the upstream instances and the
+/// ground, such as `Its rule all_success, over 1 upstream instance (1 success), says run, since all are success.`
 fn rule_sentence(
     alloc: Global,
     plan: &Plan,
@@ -57,8 +56,8 @@ fn rule_sentence(
     Ok(Text::new(text))
 }
 
-/// The sentence on what a task's trigger rule says, which is this verdict; that no rule holds it back where it has no
-/// upstreams.
+/// The sentence that a task's trigger rule gives this verdict and on what ground. Where the task has no upstreams, it
+/// says that no rule holds it back. `settled` are the tasks of the run.
 pub(crate) fn ruled_text(
     alloc: Global,
     plan: &Plan,

@@ -15,14 +15,14 @@ use bf_value::{OutOfMemory, Text};
 use bf_wording::{name_list, text_of_number};
 use std::alloc::Global;
 
-/// Why a rule says so: in words, or by the upstreams with an instance in these states.
+/// Why a rule gives a verdict: a reason in words, or the states of the upstream instances that it is due to.
 #[derive(Clone, Copy, Debug)]
 enum Ground {
     Words(&'static str),
     States(States),
 }
 
-/// The name of a trigger rule, as graph files have it.
+/// The name of a trigger rule as Airflow and graph files write it.
 pub(crate) fn rule_text(rule: Rule) -> &'static str
     ensures { result.now ≡ rule_text_of rule }
 {
@@ -41,7 +41,7 @@ pub(crate) fn rule_text(rule: Rule) -> &'static str
     }
 }
 
-/// The word for what a verdict makes of a task: `skipped`, `upstream_failed`, and `run` for every other.
+/// The word for a verdict: `skipped`, `upstream_failed`, or `run` for any other.
 pub(crate) fn verdict_text(verdict: Verdict) -> &'static str
     ensures { result.now ≡ verdict_text_of verdict }
 {
@@ -52,8 +52,8 @@ pub(crate) fn verdict_text(verdict: Verdict) -> &'static str
     }
 }
 
-/// What a rule's verdict rests on: upstreams in some states, or words alone. A verdict that the rule doesn't give
-/// counts as to run.
+/// Why a rule gives this verdict: a reason in words, or the states of the upstream instances that it is due to. A
+/// verdict that the rule never gives is taken for run.
 fn ground_of(rule: Rule, verdict: Verdict) -> Ground
     ensures { IsGround (since rule verdict) result }
 {
@@ -103,7 +103,7 @@ fn ground_of(rule: Rule, verdict: Verdict) -> Ground
     }
 }
 
-/// The id of an expanded task with how many of its `all` instances are meant, as `load (2 of 5)`.
+/// The id of an expanded task and how many of its `all` instances are meant, such as `load (2 of 5)`.
 fn name_with_share(alloc: Global, id: &str, count: u32, all: usize) -> Result<Text, OutOfMemory>
     ensures { IfOk result (λ text. text ≡ shared id.now count all) }
 {
@@ -112,7 +112,7 @@ fn name_with_share(alloc: Global, id: &str, count: u32, all: usize) -> Result<Te
     Ok(Text::new(format!(in alloc; "{id} ({count} of {all})")?))
 }
 
-/// A task in a sentence: its id, and where the report has it as expanded how many instances are meant, as `load (2 of
+/// A task in a sentence: its id, and for one that ran expanded how many of its instances are meant, such as `load (2 of
 /// 5)`.
 fn name_of_task(alloc: Global, id: &str, count: u32, task: &TaskReport) -> Result<Text, OutOfMemory>
     ensures { IfOk result (λ text. text ≡ with_share id.now count (Some task.now)) }
@@ -123,8 +123,8 @@ fn name_of_task(alloc: Global, id: &str, count: u32, task: &TaskReport) -> Resul
     }
 }
 
-/// An upstream in a sentence: its id, and where it is expanded how many instances are meant, as `load (2 of 5)`; only
-/// its id where `task`, which the report has of it, is None.
+/// An upstream in a sentence: its id, and for one that ran expanded how many of its instances are meant, such as `load
+/// (2 of 5)`. Just its id where `task`, its report, is None.
 fn name_of(
     alloc: Global,
     id: &str,
@@ -140,8 +140,8 @@ fn name_of(
     }
 }
 
-/// Adds an upstream's id to `names` where an instance of it is in one of these states, with how many where it is
-/// expanded.
+/// Adds the name of an upstream to `names` where an instance of it is in one of these states; an expanded one says how
+/// many, such as `load (2 of 5)`. Adds nothing otherwise.
 fn add_name(
     alloc: Global,
     dag: &Dag,
@@ -162,8 +162,8 @@ fn add_name(
     Ok(())
 }
 
-/// The ids of those of these upstreams that have an instance in one of these states, with how many where one is
-/// expanded.
+/// The names of the tasks among `upstreams` that have an instance in one of these states, in order; an expanded one
+/// says how many, such as `load (2 of 5)`.
 fn names_in(
     alloc: Global,
     dag: &Dag,
@@ -181,8 +181,8 @@ fn names_in(
     Ok(names)
 }
 
-/// The words `because of` and the upstreams of a task with an instance in one of these states, as `because of load (2
-/// of 5)`.
+/// The words `because of` and the upstreams of a task that have an instance in one of these states, such as `because of
+/// load (2 of 5)`.
 fn because_of(
     alloc: Global,
     dag: &Dag,
@@ -200,7 +200,8 @@ fn because_of(
     Ok(Text::new(format!(in alloc; "because of {names}")?))
 }
 
-/// The ground on which the rule of a task gives this verdict, as `because of load` or `since all are success`.
+/// The ground on which a task's trigger rule gives this verdict, such as `because of load` or `since all are success`.
+/// `settled` are the tasks of the run.
 #[tactic(auto, using(crate::proofs::SinceFacts::since_said, crate::proofs::SinceFacts::since_states))]
 pub(crate) fn since_text(
     alloc: Global,

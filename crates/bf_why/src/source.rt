@@ -13,8 +13,7 @@ use bf_value::{OutOfMemory, Text};
 use bf_wording::count_text;
 use std::alloc::Global;
 
-/// The end of a sentence on a source that pushed no list, as `, which pushed no list: it failed.`; where `source` is
-/// None it had no status.
+/// The end of a sentence on a source, such as `, which pushed no list: it failed.` A source that is None had no status.
 fn no_list_text(alloc: Global, source: Option<&Settled<'_>>) -> Result<Text, OutOfMemory>
     ensures { (each : Bool) → IfOk result (λ text.
         text ≡ items_text_of each
@@ -24,8 +23,8 @@ fn no_list_text(alloc: Global, source: Option<&Settled<'_>>) -> Result<Text, Out
     Ok(Text::new(format!(in alloc; ", which pushed no list: it {came}.")?))
 }
 
-/// The end of a sentence on a source: how many items its list has, or where `each`, that is where it is expanded
-/// itself, how many values its instances pushed.
+/// The end of a sentence on a source: how many items its list has. Where `each`, the source is expanded, and it tells
+/// how many values its instances pushed.
 fn counted_items_text(alloc: Global, each: bool, count: usize) -> Result<Text, OutOfMemory>
     ensures { (source : Option TaskReport) → IfOk result (λ text.
         text ≡ items_text_of each source (StateCause.Runs count)) }
@@ -38,8 +37,8 @@ fn counted_items_text(alloc: Global, each: bool, count: usize) -> Result<Text, O
     Ok(Text::new(format!(in alloc; ": {items} of the list that it pushed.")?))
 }
 
-/// The end of a sentence on a source, by the cause of the task expanded over it: how many items it gave, or that it
-/// gave none. `each` where the source is expanded itself, so that each of its instances gives a value.
+/// The end of a sentence on a source: how many items it gave, or that it gave none, by the cause of the task expanded
+/// over it. `each` says that the source is expanded, so that each of its instances gives a value.
 fn items_text(
     alloc: Global,
     each: bool,
@@ -57,7 +56,8 @@ fn items_text(
     }
 }
 
-/// The sentence that a task is expanded over this source, and how many items that gave, by the task's cause.
+/// The sentence that a task with this cause is expanded over `source`, and how many items that gave. `settled` are the
+/// tasks of the run.
 fn expanded_sentence(
     alloc: Global,
     plan: &Plan,
@@ -79,7 +79,7 @@ fn expanded_sentence(
     Ok(Text::new(format!(in alloc; "It is expanded over {id}{items}")?))
 }
 
-/// The task over which a task is expanded; None where it isn't expanded.
+/// The task that task number `task` is expanded over; None where it isn't expanded.
 fn source_of(plan: &Plan, task: u32) -> Option<u32>
     requires { task < length plan.now.dag.tasks }
     ensures { result ≡ (task_of plan.now.dag task).expand }
@@ -87,8 +87,8 @@ fn source_of(plan: &Plan, task: u32) -> Option<u32>
     plan.dag().task(task).expand
 }
 
-/// Adds the sentence on how many items a task's source gave it, for this cause; nothing where the task isn't
-/// expanded.
+/// Adds the sentence on the task that `task` is expanded over and how many items that gave, by this cause; adds nothing
+/// where `task` isn't expanded.
 pub(crate) fn add_source(
     alloc: Global,
     lines: &mut Vec<Text>,

@@ -6,7 +6,7 @@ ghost use Rattle.bf_rule.specs.Verdicts.{total_of};
 use bf_reason::{Settled, counts_at};
 use bf_rule::Counts;
 
-/// Some of the states in which a task's instances may be.
+/// A set of states that an instance may be in: those whose field is true.
 #[derive(Clone, Copy, Debug, PartialEq, Eq)]
 pub struct States {
     pub success: bool,
@@ -15,7 +15,7 @@ pub struct States {
     pub skipped: bool,
 }
 
-/// The count where it is chosen, and else 0.
+/// `count` where it is chosen, 0 otherwise.
 fn count_if(chosen: bool, count: u32) -> u32
     ensures { result ≡ (if chosen then count else 0) }
 {
@@ -23,6 +23,7 @@ fn count_if(chosen: bool, count: u32) -> u32
 }
 
 impl States {
+    /// Just the state success.
     pub const SUCCESS: States = States {
         success: true,
         failed: false,
@@ -30,6 +31,7 @@ impl States {
         skipped: false,
     };
 
+    /// The states failed and upstream_failed.
     pub const FAILURES: States = States {
         success: false,
         failed: true,
@@ -37,6 +39,7 @@ impl States {
         skipped: false,
     };
 
+    /// Just the state skipped.
     pub const SKIPPED: States = States {
         success: false,
         failed: false,
@@ -44,7 +47,7 @@ impl States {
         skipped: true,
     };
 
-    /// How many of the counted instances are in one of these states.
+    /// How many of the counted instances, at most 1,024, are in one of these states.
     pub fn count_in(self, counts: &Counts) -> u32
         requires { total_of counts.now ≤ 1_024 }
         ensures { result ≡ count_of self counts.now }
@@ -57,7 +60,8 @@ impl States {
     }
 }
 
-/// Whether an instance of a task is in one of these states; one that isn't in `settled` is blocked, and so in none.
+/// Whether an instance of task number `task` is in one of these states; false where `settled`, the tasks of the run,
+/// lacks it.
 pub fn has_instance_in(settled: &[Settled<'_>], states: States, task: u32) -> bool
     ensures { result ≡ has_instance_of settled.now states task }
 {

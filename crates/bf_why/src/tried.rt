@@ -21,7 +21,7 @@ const SOURCE_FAILS: &str =
 const NOT_TOLD: &str =
     "Why a try failed isn't in a report: what its program wrote to standard error says it.";
 
-/// The sentence on an instance that succeeded in its try `tries`, counted from 1, behind others that failed.
+/// The sentence on an instance that succeeded in try `tries`, from 1, after all tries before it failed.
 fn later_text(alloc: Global, tries: u32) -> Result<Text, OutOfMemory>
     ensures { IfOk result (λ text. text ≡ later_text_of tries) }
 {
@@ -31,7 +31,7 @@ fn later_text(alloc: Global, tries: u32) -> Result<Text, OutOfMemory>
     Ok(Text::new(text))
 }
 
-/// The sentence on an instance that succeeded in its try `tries`, counted from 1.
+/// The sentence on an instance that succeeded in try `tries`, from 1.
 fn succeeded_text(alloc: Global, tries: u32) -> Result<Text, OutOfMemory>
     ensures { IfOk result (λ text. text ≡ succeeded_text_of tries) }
 {
@@ -42,7 +42,7 @@ fn succeeded_text(alloc: Global, tries: u32) -> Result<Text, OutOfMemory>
     }
 }
 
-/// The sentence on an instance whose try `tries`, counted from 1, exited with 99, which skips it.
+/// The sentence on an instance whose try `tries`, from 1, exited with 99, which skips it.
 fn skipped_text(alloc: Global, tries: u32) -> Result<Text, OutOfMemory>
     ensures { IfOk result (λ text. text ≡ skipped_text_of tries) }
 {
@@ -51,7 +51,7 @@ fn skipped_text(alloc: Global, tries: u32) -> Result<Text, OutOfMemory>
     Ok(Text::new(text))
 }
 
-/// The sentence on an instance all of whose tries, as many as the graph allows, failed.
+/// The sentence on an instance that failed after `tries` tries, all that the graph allows.
 fn all_failed_text(alloc: Global, tries: u32) -> Result<Text, OutOfMemory>
     ensures { IfOk result (λ text. text ≡ all_failed_text_of tries) }
 {
@@ -62,7 +62,7 @@ fn all_failed_text(alloc: Global, tries: u32) -> Result<Text, OutOfMemory>
     Ok(Text::new(format!(in alloc; "All its {tries} tries failed.")?))
 }
 
-/// The sentence on an instance that failed behind `tries` tries, fewer or more than the `most` that the graph allows.
+/// The sentence on an instance that failed after `tries` tries, where the graph allows `most`, another number.
 fn not_allowed_text(alloc: Global, tries: u32, most: u32) -> Result<Text, OutOfMemory>
     ensures { IfOk result (λ text. text ≡ not_allowed_text_of tries most) }
 {
@@ -72,7 +72,7 @@ fn not_allowed_text(alloc: Global, tries: u32, most: u32) -> Result<Text, OutOfM
     Ok(Text::new(text))
 }
 
-/// The sentence on an instance that failed behind `tries` tries, where the graph allows `most`.
+/// The sentence on an instance that failed after `tries` tries, where the graph allows `most`.
 fn failed_text(alloc: Global, tries: u32, most: u32) -> Result<Text, OutOfMemory>
     ensures { IfOk result (λ text. text ≡ failed_text_of tries most) }
 {
@@ -83,7 +83,7 @@ fn failed_text(alloc: Global, tries: u32, most: u32) -> Result<Text, OutOfMemory
     }
 }
 
-/// Whether `other` is expanded over the task of the number `task`.
+/// Whether `other` is expanded over task number `task`.
 fn is_expanded_over(other: &Task, task: u32) -> bool
     ensures { result ≡ is_source other.now.expand task }
 {
@@ -93,7 +93,7 @@ fn is_expanded_over(other: &Task, task: u32) -> bool
     }
 }
 
-/// Whether some task of the graph is expanded over `task`.
+/// Whether any task of the graph is expanded over task number `task`.
 fn is_source_of_some(dag: &Dag, task: u32) -> bool
     ensures { result ≡ list_any (λ other. is_source other.expand task) dag.now.tasks }
 {
@@ -103,15 +103,15 @@ fn is_source_of_some(dag: &Dag, task: u32) -> bool
         .any(|other| is_expanded_over(other, task))
 }
 
-/// Whether a task has to push a list: another is expanded over it, and it isn't expanded itself.
+/// Whether a task has to push a list: it isn't expanded itself, and another task is expanded over it.
 fn gives_items(dag: &Dag, task: u32) -> bool
     ensures { result ≡ gives_items_in dag.now task }
 {
     !is_expanded(dag, task) && is_source_of_some(dag, task)
 }
 
-/// Adds sentences on what else makes a try of this task fail, where it is a branch or has to push a list, and that
-/// why a try failed isn't in a report.
+/// Adds sentences on what else fails a try of this task, where it is a branch or has to push a list, and the sentence
+/// that a report doesn't tell why a try failed.
 fn add_failings(
     alloc: Global,
     lines: &mut Vec<Text>,
@@ -126,7 +126,7 @@ fn add_failings(
     Ok(())
 }
 
-/// How many tries the graph allows an instance of a task: one more than its retries.
+/// How many tries the graph allows each instance of a task: its retries and one more.
 fn most_tries(plan: &Plan, task: u32) -> u32
     requires { task < length plan.now.dag.tasks }
     ensures { result ≡ (task_of plan.now.dag task).retries + 1 }
@@ -134,7 +134,7 @@ fn most_tries(plan: &Plan, task: u32) -> u32
     plan.dag().task(task).retries + 1
 }
 
-/// How the tries of an instance of a task went, in sentences; for a failed one also on what makes its tries fail.
+/// Sentences on how the tries of an instance of a task went; where it failed, also on what may fail its tries.
 pub(crate) fn tried_lines(
     alloc: Global,
     plan: &Plan,

@@ -12,11 +12,11 @@ use bf_value::{OutOfMemory, Text};
 use bf_wording::{add_line_if, name_list, value_text};
 use std::alloc::Global;
 
-/// How many characters of a value stand in a sentence.
+/// How many characters of a value a sentence shows.
 const MOST_CHARACTERS: usize = 200;
 
-/// The sentence that a branch succeeded and doesn't follow the task explained, with what it pushed, cut at 200
-/// characters.
+/// The sentence that a branch succeeded and doesn't follow the task explained, with the value that it pushed, as JSON
+/// cut to 200 characters.
 fn branch_sentence(
     alloc: Global,
     plan: &Plan,
@@ -33,7 +33,8 @@ fn branch_sentence(
     Ok(Text::new(text))
 }
 
-/// Adds the sentence on `upstream` where it is a branch that succeeded and doesn't follow `task`, and else nothing.
+/// Adds the sentence on `upstream` where it is a branch that succeeded and doesn't follow `task`; adds nothing
+/// otherwise.
 fn add_branch(
     alloc: Global,
     lines: &mut Vec<Text>,
@@ -52,8 +53,8 @@ fn add_branch(
     Ok(())
 }
 
-/// A sentence for each of these upstreams that is a branch which succeeded and doesn't follow `task`; none where
-/// there is no such branch.
+/// A sentence for each branch among `upstreams` that succeeded and doesn't follow `task`, in order. `settled` are the
+/// tasks of the run.
 pub(crate) fn branch_sentences(
     alloc: Global,
     plan: &Plan,
@@ -72,7 +73,7 @@ pub(crate) fn branch_sentences(
     Ok(lines)
 }
 
-/// Adds the id of a task to `ids` where `holds`.
+/// Adds the id of task number `task` to `ids` where `holds`; adds nothing otherwise.
 fn add_id_if(
     alloc: Global,
     ids: &mut Vec<Text>,
@@ -86,7 +87,7 @@ fn add_id_if(
     add_line_if(alloc, ids, holds, id_at(plan.dag(), task))
 }
 
-/// Whether an upstream is a branch without a status.
+/// Whether `upstream` is a branch without a status; true for a branch that `settled`, the tasks of the run, lacks.
 fn is_blocked_branch_of(plan: &Plan, settled: &[Settled<'_>], upstream: u32) -> bool
     ensures { result ≡ branch_is plan.now.dag is_blocked_in upstream
         (Some (value_among settled.now upstream)) }
@@ -94,7 +95,7 @@ fn is_blocked_branch_of(plan: &Plan, settled: &[Settled<'_>], upstream: u32) -> 
     is_blocked_branch(plan.dag(), settled, upstream)
 }
 
-/// The ids of the branches without a status among these upstreams, in their order.
+/// The ids of the branches without a status among `upstreams`, in order. `settled` are the tasks of the run.
 pub(crate) fn blocked_branch_ids(
     alloc: Global,
     plan: &Plan,
@@ -114,7 +115,7 @@ pub(crate) fn blocked_branch_ids(
     Ok(ids)
 }
 
-/// The ids of the tasks without a status among these upstreams, in their order.
+/// The ids of the tasks without a status among `upstreams`, in order. `settled` are the tasks of the run.
 pub(crate) fn blocked_task_ids(
     alloc: Global,
     plan: &Plan,
@@ -133,7 +134,7 @@ pub(crate) fn blocked_task_ids(
     Ok(ids)
 }
 
-/// The end of a sentence: ` has no status.` for one, and ` have no status.` for several.
+/// The end of a sentence on `count` tasks: ` has no status.` for 1, ` have no status.` for any other.
 fn has_no_status_words(count: usize) -> &'static str
     ensures { result.now ≡ (if count == 1 then codes " has no status." else codes
         " have no status.") }
@@ -145,14 +146,14 @@ fn has_no_status_words(count: usize) -> &'static str
     }
 }
 
-/// The word `branch ` for one and `branches ` for several, with a space at its end.
+/// `branch ` for a count of 1, `branches ` for any other, with the space at its end.
 fn branch_word(count: usize) -> &'static str
     ensures { result.now ≡ (if count == 1 then codes "branch " else codes "branches ") }
 {
     if count == 1 { "branch " } else { "branches " }
 }
 
-/// The end of a sentence: these names in a list, and that they have no status.
+/// A list of these names and that they have no status, such as `load and merge have no status.`
 pub fn no_status_text(alloc: Global, names: &[Text]) -> Result<Text, OutOfMemory>
     ensures { IfOk result (λ text. text ≡ have_no_status_of names.now) }
 {
@@ -161,7 +162,7 @@ pub fn no_status_text(alloc: Global, names: &[Text]) -> Result<Text, OutOfMemory
     Ok(Text::new(format!(in alloc; "{listed}{have}")?))
 }
 
-/// The sentence that these branches directly upstream have no status.
+/// The sentence that the branches of these names, directly upstream, have no status.
 pub(crate) fn blocked_branches_sentence(alloc: Global, names: &[Text]) -> Result<Text, OutOfMemory>
     ensures { IfOk result (λ text. text ≡ blocked_branches_sentence_of names.now) }
 {
@@ -170,7 +171,7 @@ pub(crate) fn blocked_branches_sentence(alloc: Global, names: &[Text]) -> Result
     Ok(Text::new(format!(in alloc; "Directly upstream, the {branches}{rest}")?))
 }
 
-/// The sentence that these tasks directly upstream have no status.
+/// The sentence that the tasks of these names, directly upstream, have no status.
 pub(crate) fn blocked_upstreams_sentence(alloc: Global, names: &[Text]) -> Result<Text, OutOfMemory>
     ensures { IfOk result (λ text. text ≡ blocked_upstreams_sentence_of names.now) }
 {

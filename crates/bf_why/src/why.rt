@@ -17,7 +17,7 @@ use bf_wording::{add_lines, count_text, one_line};
 use bf_xcom::TaskResult;
 use std::alloc::Global;
 
-/// The sentence on how an expanded task ended, as `It came to 3 instances: 2 success, 1 failed.`
+/// The sentence on how an expanded task ended, such as `It came to 3 instances: 2 success, 1 failed.`
 fn came_line(alloc: Global, instances: usize, counts: &Counts) -> Result<Text, OutOfMemory>
     ensures { IfOk result (λ text. text ≡ came_line_of instances counts.now) }
 {
@@ -26,7 +26,7 @@ fn came_line(alloc: Global, instances: usize, counts: &Counts) -> Result<Text, O
     Ok(Text::new(format!(in alloc; "It came to {instances}: {counts}.")?))
 }
 
-/// How the tries of the instance of this map index went, in sentences; none where there is no such instance.
+/// Sentences on how the tries of the instance of map index `index` went. Empty where there is no such instance.
 fn tried_lines_at(
     alloc: Global,
     plan: &Plan,
@@ -44,9 +44,9 @@ fn tried_lines_at(
     }
 }
 
-/// How all instances of an expanded task ended, in a sentence, or where `index` is given how the tries of that
-/// instance went; none where there is no such instance.
-fn came_to_lines(
+/// One sentence on how all instances of an expanded task ended; where `index` is given, sentences on how the tries of
+/// that instance went, empty where there is no such instance.
+fn expanded_lines(
     alloc: Global,
     plan: &Plan,
     task: u32,
@@ -65,8 +65,8 @@ fn came_to_lines(
     }
 }
 
-/// How a task that the report has as `told` ended, or its instance of this map index, in sentences; none for a task
-/// without a try.
+/// Sentences on how task number `task` ended or, where `index` is given and it ran expanded, on its instance of that
+/// map index. Empty where by `told`, its report, it didn't run or has no such instance.
 fn ended_lines(
     alloc: Global,
     plan: &Plan,
@@ -80,22 +80,22 @@ fn ended_lines(
     match (told.task_report(), told.results()) {
         (TaskReport::Ran(_), [ended, ..]) => tried_lines(alloc, plan, task, ended),
         (TaskReport::Mapped(_), results) => {
-            came_to_lines(alloc, plan, task, results, &told.counts(), index)
+            expanded_lines(alloc, plan, task, results, &told.counts(), index)
         }
         _ => Ok(Vec::new(alloc)),
     }
 }
 
-/// Whether a task is expanded.
+/// Whether task number `task` is expanded.
 fn is_expanded_in(plan: &Plan, task: u32) -> bool
     ensures { result ≡ is_some (task_of plan.now.dag task).expand }
 {
     is_expanded(plan.dag(), task)
 }
 
-/// Why a task, or its instance of this map index, has its state, in sentences: how the graph decides it for this
-/// cause, and how its tries went. `settled` are the tasks of the run, `before` is the run before and `settled_before`
-/// its tasks, none for the first run; `told` is what the report has of the task.
+/// Sentences on why a task, or its instance of map index `index`, has its state: how the graph decides it for this
+/// cause, and how its tries went. `settled` are the tasks of the run, `told` is the task; `before` is the run before,
+/// None for the first run, and `settled_before` its tasks.
 pub fn why_lines(
     alloc: Global,
     plan: &Plan,

@@ -4,7 +4,7 @@ ghost use Rattle.std.specs.Prelude.{◌≡◌, ◌++◌, ◌∷◌, [], IfOk, On
 use bf_value::{OutOfMemory, Text};
 use std::alloc::Global;
 
-/// A list of one line.
+/// Makes a list of one line.
 pub fn one_line(alloc: Global, line: Text) -> Result<Vec<Text>, OutOfMemory>
     ensures { IfOk result (λ lines. lines.items ≡ line ∷ []) }
 {
@@ -21,7 +21,7 @@ pub fn add_line(alloc: Global, lines: &mut Vec<Text>, line: &str) -> Result<(), 
     Ok(())
 }
 
-/// Adds a line behind the others, which is moved in.
+/// Adds a line behind the others, without copying it.
 pub fn add_moved_line(lines: &mut Vec<Text>, line: Text) -> Result<(), OutOfMemory>
     ensures { OnOk result (lines.new.items ≡ lines.old.items ++ line ∷ []) }
 {
@@ -29,7 +29,7 @@ pub fn add_moved_line(lines: &mut Vec<Text>, line: Text) -> Result<(), OutOfMemo
     Ok(())
 }
 
-/// Adds lines behind the others.
+/// Adds lines, in order, behind the others.
 pub fn add_lines(lines: &mut Vec<Text>, more: Vec<Text>) -> Result<(), OutOfMemory>
     ensures { OnOk result (lines.new.items ≡ lines.old.items ++ more.items) }
 {
@@ -39,7 +39,7 @@ pub fn add_lines(lines: &mut Vec<Text>, more: Vec<Text>) -> Result<(), OutOfMemo
     Ok(())
 }
 
-/// Adds a copy of a line where `holds`, and else nothing.
+/// Adds a copy of a line behind the others where `holds`; else does nothing.
 pub fn add_line_if(
     alloc: Global,
     lines: &mut Vec<Text>,

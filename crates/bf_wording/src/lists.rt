@@ -8,15 +8,14 @@ use crate::numbers::push_number;
 use bf_value::{OutOfMemory, Text};
 use std::alloc::Global;
 
-/// What joins two names of a list: ` and ` where no name is left behind the second, else `, `. `left` says how many
-/// are.
+/// Gives what goes before a name of a list that has `left` more names behind it: ` and ` for the last, else `, `.
 fn separator(left: usize) -> &'static str
     ensures { result.now ≡ (if left == 0 then codes " and " else codes ", ") }
 {
     if left == 0 { " and " } else { ", " }
 }
 
-/// Adds the names with commas between them, and `and` before the last.
+/// Adds the names with commas between them, and ` and ` before the last; adds nothing where there are none.
 fn push_joined(text: &mut String, names: &[Text]) -> Result<(), OutOfMemory>
     ensures { OnOk result (string_bytes text.new ≡ string_bytes text.old ++ joined names.now) }
 {
@@ -31,7 +30,7 @@ fn push_joined(text: &mut String, names: &[Text]) -> Result<(), OutOfMemory>
     Ok(())
 }
 
-/// Copies of all these names.
+/// Copies all these names.
 fn copies_of_names(alloc: Global, names: &[Text]) -> Result<Vec<Text>, OutOfMemory>
     ensures { IfOk result (λ copies. copies.items ≡ names.now) }
 {
@@ -42,7 +41,7 @@ fn copies_of_names(alloc: Global, names: &[Text]) -> Result<Vec<Text>, OutOfMemo
     Ok(copies)
 }
 
-/// The words `N more`.
+/// Makes the words `N more`, with commas in the number.
 fn more_text(alloc: Global, count: usize) -> Result<Text, OutOfMemory>
     ensures { IfOk result (λ text. text ≡ number_text count ++ codes " more") }
 {
@@ -52,7 +51,7 @@ fn more_text(alloc: Global, count: usize) -> Result<Text, OutOfMemory>
     Ok(Text::new(text))
 }
 
-/// Copies of the names; of more than `most` + 1 names copies of the first `most`, and the words `N more`.
+/// Copies the names; of more than `most` + 1 names only the first `most`, followed by the words `N more`.
 fn shortened_names(alloc: Global, names: &[Text], most: usize) -> Result<Vec<Text>, OutOfMemory>
     ensures { IfOk result (λ kept. kept.items ≡ shortened_names_of most names.now) }
 {
@@ -64,8 +63,8 @@ fn shortened_names(alloc: Global, names: &[Text], most: usize) -> Result<Vec<Tex
     Ok(kept)
 }
 
-/// Adds names, as `a`, `a and b`, `a, b and c`, and nothing for none; of more than `most` + 1 names the first `most`,
-/// and how many more there are, as `a, b and 3 more`.
+/// Adds names in the form `a`, `a and b` or `a, b and c`; nothing for none. Of more than `most` + 1 names it adds the
+/// first `most` and how many more there are, as in `a, b and 3 more`.
 pub fn push_name_list(
     alloc: Global,
     text: &mut String,
@@ -79,7 +78,7 @@ pub fn push_name_list(
     push_joined(text, kept.as_slice())
 }
 
-/// Adds the parts of a list, with `separator` between two; nothing where there are none.
+/// Adds the parts, in order, with `separator` between each two; adds nothing where there are none.
 pub fn push_separated(text: &mut String, separator: &str, parts: &[Text]) -> Result<(), OutOfMemory>
     ensures { OnOk result (string_bytes text.new
         ≡ string_bytes text.old ++ join_by (λ part. part) separator.now parts.now) }

@@ -5,7 +5,7 @@ ghost use Rattle.bf_wording.specs.Numbers.{number_text, count_text_of, with_comm
 use bf_value::OutOfMemory;
 use std::alloc::Global;
 
-/// Adds ASCII digits with a comma before each three from the end, as `8,192,000`.
+/// Adds a number's ASCII digits, with commas between groups of three, in the form `8,192,000`.
 fn push_with_commas(text: &mut String, digits: &[u8]) -> Result<(), OutOfMemory>
     requires { All (λ digit. digit < 128) digits.now }
     ensures { OnOk result (string_bytes text.new
@@ -21,7 +21,7 @@ fn push_with_commas(text: &mut String, digits: &[u8]) -> Result<(), OutOfMemory>
     Ok(())
 }
 
-/// Adds a number with commas, as `8,192,000`.
+/// Adds a number with commas between groups of three digits, in the form `8,192,000`.
 pub fn push_number(alloc: Global, text: &mut String, number: u64) -> Result<(), OutOfMemory>
     ensures { OnOk result (string_bytes text.new
         ≡ string_bytes text.old ++ number_text number) }
@@ -30,7 +30,7 @@ pub fn push_number(alloc: Global, text: &mut String, number: u64) -> Result<(), 
     push_with_commas(text, digits.as_bytes())
 }
 
-/// Adds a number with commas and its noun, as `1 run` and `2 runs`; `one` is the noun for one.
+/// Adds a number with commas and its noun in the form `1 run` or `2 runs`; `one` is the noun's singular.
 pub fn push_count(
     alloc: Global,
     text: &mut String,

@@ -8,10 +8,10 @@ use crate::numbers::{push_count, push_number};
 use bf_value::{OutOfMemory, Text};
 use std::alloc::Global;
 
-/// How many names stand in a sentence, and one more where that is all.
+/// How many names a sentence lists where at least two more follow; it lists up to one more than that in full.
 const MOST_NAMES: usize = 5;
 
-/// The text of a number with commas, as `8,192,000`.
+/// Spells a number with commas between groups of three digits, in the form `8,192,000`.
 pub fn text_of_number(alloc: Global, count: u64) -> Result<Text, OutOfMemory>
     ensures { IfOk result (λ text. text ≡ number_text count) }
 {
@@ -20,7 +20,7 @@ pub fn text_of_number(alloc: Global, count: u64) -> Result<Text, OutOfMemory>
     Ok(Text::new(text))
 }
 
-/// A count with commas and its noun, as `1 run` and `2 runs`; `one` is the noun for one.
+/// Spells a number with commas and its noun in the form `1 run` or `2 runs`; `one` is the noun's singular.
 pub fn count_text(alloc: Global, count: u64, one: &str) -> Result<Text, OutOfMemory>
     ensures { IfOk result (λ text. text ≡ count_text_of count one.now) }
 {
@@ -29,7 +29,8 @@ pub fn count_text(alloc: Global, count: u64, one: &str) -> Result<Text, OutOfMem
     Ok(Text::new(text))
 }
 
-/// The text of a list of names, as `a, b and c`; of more than 6 names the first 5, and how many more there are.
+/// Lists names in the form `a, b and c`; of more than 6 names the first 5 and how many more there are, as in `a, b, c,
+/// d, e and 3 more`.
 pub fn name_list(alloc: Global, names: &[Text]) -> Result<Text, OutOfMemory>
     ensures { IfOk result (λ text. text ≡ name_list_of 5 names.now) }
 {

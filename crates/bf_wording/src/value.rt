@@ -9,7 +9,7 @@ use bf_quoted::push_shown_value;
 use bf_value::{OutOfMemory, Text, Xval, text_of};
 use std::alloc::Global;
 
-/// The characters of a text.
+/// Gives the characters of a text, in order.
 fn chars_of(alloc: Global, shown: &str) -> Result<Vec<char>, OutOfMemory>
     ensures { IfOk result (λ all. all.items ≡ chars shown.now) }
 {
@@ -20,7 +20,7 @@ fn chars_of(alloc: Global, shown: &str) -> Result<Vec<char>, OutOfMemory>
     Ok(all)
 }
 
-/// The text that these characters make.
+/// Makes a text of these characters.
 fn text_of_chars(alloc: Global, shown: &[char]) -> Result<Text, OutOfMemory>
     ensures { IfOk result (λ text. text ≡ flat_map encode_utf8 shown.now) }
 {
@@ -31,7 +31,8 @@ fn text_of_chars(alloc: Global, shown: &[char]) -> Result<Text, OutOfMemory>
     Ok(Text::new(text))
 }
 
-/// The first characters of a text, and `count`, how many it has in all, as `abc... (1,234 characters)`.
+/// Makes the text of the characters `first`, three dots, and `count`, the number of characters that the whole has:
+/// `abc... (1,234 characters)`.
 fn cut_text_with_count(alloc: Global, first: &[char], count: usize) -> Result<Text, OutOfMemory>
     ensures { IfOk result (λ text. text ≡ cut_text_with_count_of first.now count) }
 {
@@ -40,7 +41,7 @@ fn cut_text_with_count(alloc: Global, first: &[char], count: usize) -> Result<Te
     Ok(Text::new(format!(in alloc; "{first}... ({count} characters)")?))
 }
 
-/// The text `shown`; of one with more than `most` characters the first `most`, and how many it has in all.
+/// Copies a text; where it has more than `most` characters, only the first `most`, with how many it has in all.
 fn cut_text(alloc: Global, shown: &str, most: usize) -> Result<Text, OutOfMemory>
     ensures { IfOk result (λ text. text ≡ cut most shown.now) }
 {
@@ -51,8 +52,8 @@ fn cut_text(alloc: Global, shown: &str, most: usize) -> Result<Text, OutOfMemory
     cut_text_with_count(alloc, &all[..most], all.len())
 }
 
-/// A value as compact JSON text that a terminal shows as it is, or `nothing` for none. Of a text with more than
-/// `most` characters the first `most`, and how many it has in all.
+/// Gives a value as compact JSON, with escapes for what a terminal wouldn't show as itself, or `nothing` for None.
+/// Where that has more than `most` characters, it gives the first `most`, and how many there are.
 pub fn value_text(alloc: Global, value: Option<&Xval>, most: usize) -> Result<Text, OutOfMemory>
     ensures { IfOk result (λ text. text ≡ value_text_of most (option_copied value.entry)) }
 {

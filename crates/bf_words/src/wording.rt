@@ -9,7 +9,7 @@ use bf_value::{OutOfMemory, Xval, text_of};
 use bf_xcom::Given;
 use std::alloc::Global;
 
-/// A text itself, and any other value as compact JSON.
+/// A value as a word of a command: a text as it stands, any other value as compact JSON.
 fn value_word(alloc: Global, value: &Xval) -> Result<String, OutOfMemory>
     ensures { IfOk result (λ word. string_bytes word ≡ value_word_of value.now) }
 {
@@ -19,7 +19,8 @@ fn value_word(alloc: Global, value: &Xval) -> Result<String, OutOfMemory>
     }
 }
 
-/// What a pushed value is as a word of a command; empty where nothing was pushed.
+/// What was pushed as a word of a command: a text as it stands, any other value as compact JSON; empty where nothing
+/// was pushed.
 fn pushed_word(alloc: Global, value: Option<&Xval>) -> Result<String, OutOfMemory>
     ensures { IfOk result (λ word. string_bytes word
         ≡ pushed_word_of (option_map (λ v. v.now) value.entry)) }
@@ -30,7 +31,7 @@ fn pushed_word(alloc: Global, value: Option<&Xval>) -> Result<String, OutOfMemor
     }
 }
 
-/// The text of a context variable in the context of a try.
+/// What a context variable is for the try of `context`, as a text.
 fn context_word(
     alloc: Global,
     variable: ContextVariable,
@@ -50,7 +51,7 @@ fn context_word(
     })
 }
 
-/// What the pull at a place, from 0, gives; None where nothing was pushed or there is no such place.
+/// What the pull at `place`, from 0, gave; None where it gave nothing, or there is no such pull.
 fn pulled_at(given: &Given, place: u32) -> Option<&Xval>
     ensures { option_map (λ v. v.now) result ≡ slice_index_or given.now.pulled place None }
 {
@@ -60,15 +61,14 @@ fn pulled_at(given: &Given, place: u32) -> Option<&Xval>
     }
 }
 
-/// The item of the instance; None where its task isn't expanded.
+/// The item that an instance was given; None where its task isn't expanded.
 fn item_of(given: &Given) -> Option<&Xval>
     ensures { option_map (λ v. v.now) result ≡ given.now.item }
 {
     given.item.as_ref()
 }
 
-/// The text of a word of a command in a try; empty for a pull that gives nothing, and for the item of an unmapped
-/// task.
+/// What a word of a command is in a try; empty for a pull that gave nothing, and for the item of an unmapped task.
 fn word_for_try(
     alloc: Global,
     word: &Word,
@@ -85,9 +85,9 @@ fn word_for_try(
     }
 }
 
-/// What the words of a command are for one try, in order: a text is itself, a context variable is the text of what it
-/// names, and what is pulled and the item of an instance are themselves where they are texts, else their compact JSON
-/// text. Where nothing is pulled the word is empty; an item that is null is the word `null`.
+/// The words of a command for one try, in order. A text stands as it is, a context variable is its text, and an item or
+/// a pulled value stands as it is where it is a text, else as compact JSON. A pull that gave nothing is the empty word;
+/// an item that is null is the word `null`.
 pub fn words(
     alloc: Global,
     command: &[Word],

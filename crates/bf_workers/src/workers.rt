@@ -25,14 +25,14 @@ impl Model for Workers {
 }
 
 impl Workers {
-    /// One worker, as where no number is given.
+    /// One worker, for where no number is given.
     pub fn one() -> Workers
         ensures { result ≡ 1 }
     {
         Workers { count: 1 }
     }
 
-    /// So many workers, from 1 to 64; nothing for another number.
+    /// So many workers, from 1 to 64; None for any other number.
     pub fn new(count: u32) -> Option<Workers>
         ensures some { IfSome result (λ w. w ≡ count) }
         ensures none { IfNone result (¬ ((1 ≤ count) × (count ≤ 64))) }
@@ -44,7 +44,7 @@ impl Workers {
         }
     }
 
-    /// How many there are, from 1 to 64.
+    /// How many workers there are, from 1 to 64.
     pub fn count(self) -> u32
         ensures count { result ≡ self }
         ensures some { 1 ≤ result }

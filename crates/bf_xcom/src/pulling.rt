@@ -24,7 +24,7 @@ fn only_pushed_value(alloc: Global, instances: &[TaskResult]) -> Result<Option<X
     }
 }
 
-/// Copies of all that the instances pushed, in order; one that pushed nothing is left out.
+/// Copies of what the instances pushed, in order, without those that pushed nothing.
 fn pushed_values(alloc: Global, instances: &[TaskResult]) -> Result<Vec<Xval>, OutOfMemory>
     ensures { IfOk result (λ values. values.items ≡ pushed_values_in instances.now) }
 {
@@ -37,9 +37,9 @@ fn pushed_values(alloc: Global, instances: &[TaskResult]) -> Result<Vec<Xval>, O
     Ok(values)
 }
 
-/// What a pull from a task gives, by the value that the task has in the run: of an unmapped task that ran, what it
-/// pushed; of an expanded one that ran, the list of what its instances pushed, in index order and perhaps empty; of
-/// any other, nothing.
+/// What a pull from the task `source` gives, by the value that it has in the run: what an unmapped task that ran
+/// pushed, or the list, perhaps empty, of what the instances of an expanded one pushed, by map index. None where the
+/// task didn't run, or is unmapped and pushed nothing.
 pub fn pull(alloc: Global, source: &Task, value: &TaskValue) -> Result<Option<Xval>, OutOfMemory>
     ensures { IfOk result (λ pulled. pulled ≡ pull_of source.now value.now) }
 {

@@ -2,7 +2,7 @@
 ghost use Rattle.std.specs.Prelude.{◌≡◌, ◌↔◌, IfOk, IsTrue, option_copied};
 ghost use Rattle.bf_xcom.specs.Pulls.{pushed_by};
 
-use crate::pulled::Pulled;
+use crate::shared_value::SharedValue;
 use bf_value::{OutOfMemory, Sequence, Xval, copy_option, is_same_option};
 use std::alloc::Global;
 
@@ -11,13 +11,13 @@ use std::alloc::Global;
 #[derive(Debug, Drop)]
 pub struct Given {
     pub item: Option<Xval>,
-    pub pulled: Sequence<Pulled>,
+    pub pulled: Sequence<SharedValue>,
 }
 
 /// How a try ended. A success pushes a value or nothing.
 #[derive(Debug, Drop)]
 pub enum Outcome {
-    Success(Option<Xval>),
+    Success(SharedValue),
     Failed,
     Skipped,
 }
@@ -29,9 +29,8 @@ pub struct TaskResult {
     pub tries: u32,
 }
 
-/// The value of a task in a run, once it is settled: it depends on a past that failed or on a task that is
-/// blocked; or it is skipped, or upstream_failed, without a try; or it ran, with a result for each instance by
-/// map index (one for an unmapped task).
+/// The value of a task in a run, once it is settled: blocked by its past or by a blocked task; skipped or
+/// upstream_failed without a try; or ran, with a result for each instance by map index (one for an unmapped task).
 #[derive(Debug, Drop)]
 pub enum TaskValue {
     Blocked,
@@ -56,21 +55,20 @@ impl Given {
             && are_same(self.pulled.as_slice(), other.pulled.as_slice())
     }
 
-    /// A copy of it, which shares the memory of what is pulled. Contracts see no sharing.
+    /// A copy of what is given; pulled values are shared and not copied. Contracts see no sharing.
     pub fn copy(&self, alloc: Global) -> Result<Given, OutOfMemory>
         ensures { IfOk result (λ given. given ≡ self.now) }
     {
-        let item = copy_option(alloc, self.item.as_ref())?;
         let pulled = shares_of(alloc, self.pulled.as_slice())?;
         Ok(Given {
-            item,
+            item: copy_option(alloc, self.item.as_ref())?,
             pulled: Sequence::from_vec(pulled),
         })
     }
 }
 
-/// Whether both lists have equal pulls, in the same order.
-fn are_same(one: &[Pulled], other: &[Pulled]) -> bool
+/// Whether both lists have equal values, in the same order.
+fn are_same(one: &[SharedValue], other: &[SharedValue]) -> bool
     ensures { IsTrue result ↔ (one.now ≡ other.now) }
 {
     if one.len() != other.len() {
@@ -84,8 +82,8 @@ fn are_same(one: &[Pulled], other: &[Pulled]) -> bool
     true
 }
 
-/// The pulls once more, with the memory of their values shared. Contracts see no sharing.
-fn shares_of(alloc: Global, all: &[Pulled]) -> Result<Vec<Pulled>, OutOfMemory>
+/// The same values once more, in order; they are shared and not copied. Contracts see no sharing.
+fn shares_of(alloc: Global, all: &[SharedValue]) -> Result<Vec<SharedValue>, OutOfMemory>
     ensures { IfOk result (λ shares. shares.items ≡ all.now) }
 {
     let mut shares = Vec::with_capacity(alloc, all.len())?;
@@ -96,13 +94,23 @@ fn shares_of(alloc: Global, all: &[Pulled]) -> Result<Vec<Pulled>, OutOfMemory>
 }
 
 impl Outcome {
-    /// What a try that ended so pushed: a value where it succeeded with one, else nothing.
+    /// What a try with this outcome pushed; None where it pushed nothing or didn't succeed.
     pub fn pushed(&self) -> Option<&Xval>
         ensures { option_copied result ≡ pushed_by self.now }
     {
         match self {
-            Outcome::Success(Some(value)) => Some(value),
-            Outcome::Success(None) | Outcome::Failed | Outcome::Skipped => None,
+            Outcome::Success(pushed) => pushed.get(),
+            Outcome::Failed | Outcome::Skipped => None,
+        }
+    }
+
+    /// What a try that ended so pushed, shared with one more holder. Contracts see no sharing.
+    pub fn share_pushed(&self) -> Result<SharedValue, OutOfMemory>
+        ensures { IfOk result (λ pushed. pushed ≡ pushed_by self.now) }
+    {
+        match self {
+            Outcome::Success(pushed) => pushed.share(),
+            Outcome::Failed | Outcome::Skipped => Ok(SharedValue::nothing()),
         }
     }
 
@@ -111,22 +119,18 @@ impl Outcome {
         ensures { IsTrue result ↔ (self.now ≡ other.now) }
     {
         match (self, other) {
-            (Outcome::Success(one), Outcome::Success(other)) => {
-                is_same_option(one.as_ref(), other.as_ref())
-            }
+            (Outcome::Success(one), Outcome::Success(other)) => one.is_same(other),
             (Outcome::Failed, Outcome::Failed) | (Outcome::Skipped, Outcome::Skipped) => true,
             _ => false,
         }
     }
 
-    /// A copy of the outcome and of what it pushed.
-    pub fn copy(&self, alloc: Global) -> Result<Outcome, OutOfMemory>
+    /// A copy of the outcome; what was pushed is shared and not copied. Contracts see no sharing.
+    pub fn copy(&self, _alloc: Global) -> Result<Outcome, OutOfMemory>
         ensures { IfOk result (λ outcome. outcome ≡ self.now) }
     {
         match self {
-            Outcome::Success(pushed) => {
-                Ok(Outcome::Success(copy_option(alloc, pushed.as_ref())?))
-            }
+            Outcome::Success(pushed) => Ok(Outcome::Success(pushed.share()?)),
             Outcome::Failed => Ok(Outcome::Failed),
             Outcome::Skipped => Ok(Outcome::Skipped),
         }

@@ -5,7 +5,7 @@ ghost use Rattle.bf_zone.specs.Offsets.{offset_of, digits, clock_seconds};
 
 use jiff::tz::Offset;
 
-/// The number that two ASCII digits spell; None where one is no digit.
+/// Gives the number that two ASCII digits spell; None where one is no digit.
 fn number_of_two_digits(tens: u8, units: u8) -> Option<u32>
     ensures value { result ≡ digits tens units }
     ensures bound { IfSome result (λ n. n < 100) }
@@ -16,7 +16,7 @@ fn number_of_two_digits(tens: u8, units: u8) -> Option<u32>
     None
 }
 
-/// The seconds of so many hours and minutes; None for more than 23 hours or 59 minutes.
+/// Converts hours and minutes to seconds; None for more than 23 hours or 59 minutes.
 fn seconds_of_hours_and_minutes(hours: u32, minutes: u32) -> Option<u32>
     requires hours { hours < 100 }
     requires minutes { minutes < 100 }
@@ -29,7 +29,7 @@ fn seconds_of_hours_and_minutes(hours: u32, minutes: u32) -> Option<u32>
     None
 }
 
-/// The offset of so many seconds, less than a day: positive to the east of Greenwich, negative to the west.
+/// Makes the offset of less than a day in seconds, positive to the east of Greenwich.
 fn offset_of_seconds(seconds: i32) -> Offset
     requires { IsWithin 86_400 seconds }
     ensures { result.seconds ≡ seconds }
@@ -40,7 +40,7 @@ fn offset_of_seconds(seconds: i32) -> Offset
     offset
 }
 
-/// The offset that `+HH:MM` or `-HH:MM` says, up to 23:59; None for any other text.
+/// Reads an offset spelled as `+HH:MM` or `-HH:MM`, up to 23:59; None for any other text.
 pub(crate) fn offset_in(text: &[u8]) -> Option<Offset>
     ensures { option_map (λ o. o.seconds) result ≡ offset_of text.now }
 {

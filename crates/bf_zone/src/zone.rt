@@ -11,10 +11,10 @@ use jiff::tz::{TimeZone, Tzif};
 use std::alloc::Global;
 use thiserror::Error;
 
-/// The greatest length of a zone file (our own choice).
+/// The most bytes that a zone file may have (this program's own choice).
 pub const MOST_FILE_BYTES: usize = 1_048_576;
 
-/// A time zone with what was read for it.
+/// A time zone that owns what was read for it.
 #[derive(Drop)]
 pub enum Zone {
     /// UTC, an offset or a POSIX rule.
@@ -23,7 +23,7 @@ pub enum Zone {
     Table(Tzif),
 }
 
-/// Why a text was not read as a zone.
+/// Why a text could not be read as a zone.
 #[derive(Clone, Copy, Debug, PartialEq, Eq, Error)]
 pub enum ZoneFault {
     #[error("bad zone")]
@@ -32,7 +32,8 @@ pub enum ZoneFault {
     OutOfMemory,
 }
 
-/// The zone that the bytes of a zone file say; `Bad` where they are too many or no zone file. No file is read.
+/// Reads a zone from the bytes of a zone file (TZif). `Bad` where they are more than `MOST_FILE_BYTES` or no zone file,
+/// `OutOfMemory` at want of memory.
 fn zone_of_file(alloc: Global, bytes: &[u8]) -> Result<Zone, ZoneFault>
     ensures { IsZoneRead file_asked (Some bytes.now) result }
 {
@@ -46,7 +47,7 @@ fn zone_of_file(alloc: Global, bytes: &[u8]) -> Result<Zone, ZoneFault>
     }
 }
 
-/// The zone of an offset, as `+01:00`, or of a POSIX rule; None for any other text.
+/// Reads a zone from an offset, such as `+01:00`, or a POSIX rule; None for any other text.
 fn zone_of_offset_or_rule(text: &str) -> Option<TimeZone<'static>>
     ensures some { IfSome result (λ tz. (file : Option (List ℕ)) →
         IsZone (offset_or_rule (offset_of text.now) text.now) file (plain_zone tz)) }
@@ -60,9 +61,9 @@ fn zone_of_offset_or_rule(text: &str) -> Option<TimeZone<'static>>
 }
 
 impl Zone {
-    /// The zone of a text: `UTC`, an offset, a POSIX rule, or `file` for the bytes of a zone file, looked at for no
-    /// other. `Bad` comes exactly where the text means no zone, as `file` does without bytes, and `OutOfMemory` only
-    /// for a zone file that can be read: one that is too long is `Bad` before anything grows.
+    /// Reads a zone from a text: `UTC`, an offset, a POSIX rule, or `file` for the bytes of a zone file, which no other
+    /// text needs. `Bad` exactly where the text means no zone, as `file` does without bytes. `OutOfMemory` comes only
+    /// for a zone file that would be readable: one that is too long is `Bad`.
     pub fn read(alloc: Global, text: &str, file: Option<&[u8]>) -> Result<Zone, ZoneFault>
         ensures { IsZoneRead (asked text.now) (option_map (λ s. s.now) file.entry) result }
     {
@@ -79,7 +80,7 @@ impl Zone {
         }
     }
 
-    /// The zone as jiff's calls take it, for as long as this value is lent.
+    /// Lends the zone in the form that jiff's calls take.
     pub fn as_time_zone(&self) -> TimeZone<'_>
         ensures { IsZoneOf self.now (plain_zone result) }
     {

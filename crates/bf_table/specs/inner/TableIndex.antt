@@ -1,6 +1,8 @@
 -- Which entry of a table comes first of those that name the same.
 use Rattle.std.specs.Prelude.{ℕ, min, ℤ, pos, List, [], ◌∷◌, ◌++◌, Option, Some, None}
+use Rattle.std.specs.Bool.{then_some}
 use Rattle.bf_value.specs.declared.name.JobName.{JobName}
+use Rattle.bf_table.specs.declared.table_index.NamedParts.{NamedParts}
 use Rattle.bf_table.specs.declared.table_index.Pattern.{Pattern}
 
 -- the less of two numbers, where there are two
@@ -14,14 +16,14 @@ abbrev pub first_of_keys : (Pattern → Option ℕ) → List Pattern → Option 
 first_of_keys get [] = None
 first_of_keys get (key ∷ keys) = earlier_place_of (get key) (first_of_keys get keys)
 
--- what a try has of all that an entry may name
-abbrev pub pattern_of_try : ℕ → List ℕ → JobName → Pattern
-pattern_of_try task date name =
+-- what a try has of all that these entries name
+abbrev pub pattern_of_try : NamedParts → List ℕ → JobName → Pattern
+pattern_of_try named date name =
     record {
-      task = Some task;
-      date = Some date;
-      index = Some name.index;
-      attempt = Some (pos name.attempt);
+      task = Some name.task;
+      date = then_some named.run date;
+      index = then_some named.index name.index;
+      attempt = then_some named.attempt (pos name.attempt);
     }
 
 -- the patterns of the entries that answer for a try: of each that the try has, an entry names it or names none

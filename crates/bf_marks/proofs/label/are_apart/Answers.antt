@@ -10,4 +10,4 @@ loop-start-preserved c =
     let i = c.loop-start.start-index in
     let start = c.start-item.result in
     c.loop-start.invariant ∙ apart_more least c.loop-start.before.at.nanosecond rest i start c.loop-start-test.true c.start-item.is
-    ∙ ap (λ behind. behind && are_apart_in least (start.at.nanosecond ∷ moments (drop (i + 1) rest))) (sym c.if-not-are_two_apart.ensures)
+    ∙ ap (λ behind. behind && are_apart_in least (start.at.nanosecond ∷ moments (drop (i + 1) rest))) (sym c.if-not-is_later_by.ensures)

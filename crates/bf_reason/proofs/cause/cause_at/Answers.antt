@@ -11,10 +11,10 @@ returns-then-has_skipping_branch c =
     cause_skips c.args.plan.now.dag c.args.run c.args.settled.now (before_among c.args.before.now c.args.run c.args.task) c.args.task c.task_in-decided.result.now
     c.as_slice-upstreams.result.now c.task_in-decided.ensures.task c.as_slice-upstreams.ensures (sym c.has_skipping_branch.ensures ∙ c.if-has_skipping_branch.true)
 
-pub returns-then-any_is_blocked_branch : goal.returns-then-any_is_blocked_branch
-returns-then-any_is_blocked_branch c =
+pub returns-then-has_blocked_branch : goal.returns-then-has_blocked_branch
+returns-then-has_blocked_branch c =
     cause_blocks c.args.plan.now.dag c.args.run c.args.settled.now (before_among c.args.before.now c.args.run c.args.task) c.args.task c.task_in-decided.result.now
-    c.as_slice-upstreams.result.now c.task_in-decided.ensures.task c.as_slice-upstreams.ensures (sym c.has_skipping_branch.ensures ∙ c.if-has_skipping_branch.false) (sym c.any_is_blocked_branch.ensures ∙ c.if-any_is_blocked_branch.true)
+    c.as_slice-upstreams.result.now c.task_in-decided.ensures.task c.as_slice-upstreams.ensures (sym c.has_skipping_branch.ensures ∙ c.if-has_skipping_branch.false) (sym c.has_blocked_branch.ensures ∙ c.if-has_blocked_branch.true)
 
 pub returns : goal.returns
 returns c =
@@ -24,4 +24,4 @@ returns c =
     c.cause_by_verdict.ensures ∙ ap (λ d. cause_of (cause_by_verdict_of d run seen before task c.verdict-verdict.result)) c.dag.ensures.dag
     ∙ ap (λ v. cause_of (cause_by_verdict_of dag run seen before task v)) (c.verdict-verdict.ensures ∙ ap (verdict c.task_in-decided.result.now.rule) c.counts_of_upstreams-counts.ensures)
     ∙ cause_rules dag run c.args.settled.now before task c.task_in-decided.result.now c.as_slice-upstreams.result.now c.task_in-decided.ensures.task c.as_slice-upstreams.ensures
-    (sym c.has_skipping_branch.ensures ∙ c.if-has_skipping_branch.false) (sym c.any_is_blocked_branch.ensures ∙ c.if-any_is_blocked_branch.false)
+    (sym c.has_skipping_branch.ensures ∙ c.if-has_skipping_branch.false) (sym c.has_blocked_branch.ensures ∙ c.if-has_blocked_branch.false)

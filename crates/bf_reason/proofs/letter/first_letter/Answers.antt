@@ -5,4 +5,4 @@ use Rattle.bf_reason.proofs.letter.first_letter.Goals as goal
 
 pub returns-clause-letter : goal.returns-clause-letter
 returns-clause-letter c = λ instances is.
-    c.letter_by_flags.ensures.letter ∙ (λ i. letter_by_flags_of (c.some_has_letter.ensures i) (c.some_has_letter-2.ensures i) (c.some_has_letter-3.ensures i)) ∙ first_of c.args.results.now instances is
+    c.letter_by_flags.ensures.letter ∙ (λ i. letter_by_flags_of (c.has_letter.ensures i) (c.has_letter-2.ensures i) (c.has_letter-3.ensures i)) ∙ first_of c.args.results.now instances is

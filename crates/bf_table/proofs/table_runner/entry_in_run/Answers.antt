@@ -1,13 +1,16 @@
-use Rattle.std.proofs.Common.{sym, ap, ◌∙◌, option_and_then, slice_get}
-use Rattle.std.specs.BTreeMap as tree
-use Rattle.bf_table.specs.declared.table_index.Pattern.{Pattern}
-use Rattle.bf_table.specs.TableIndex.{pattern_cmp}
-use Rattle.bf_table.specs.inner.TableIndex.{first_of_keys, keys_of}
-use Rattle.bf_table.proofs.KeyLemmas.{first_answers}
+use Rattle.std.proofs.Common.{◌≡◌, ◌<◌, ◌∙◌, length, ap, arith}
+use Rattle.bf_plan.specs.declared.plan.Dag.{Dag}
+use Rattle.bf_plan.specs.Plans.{shape_of, task_of}
+use Rattle.bf_plan.proofs.PlanLemmas.{task_found}
+use Rattle.bf_table.proofs.KeyLemmas.{answer_found}
 use Rattle.bf_table.proofs.table_runner.entry_in_run.Goals as goal
 
-pub returns-in-Some : goal.returns-in-Some
-returns-in-Some c =
-    let entries = c.args.entries.now in
-    c.find_by_index.ensures ∙ ap (λ (asked : Pattern). option_and_then (slice_get entries) (first_of_keys (tree.get pattern_cmp c.args.firsts.now) (keys_of asked))) c.of_try.ensures
-    ∙ first_answers c.args.graph.now.ids c.in-Some.task c.args.id.now c.args.date c.args.name (sym c.number_of.ensures ∙ c.in-Some.is) c.requires.long entries c.args.firsts.now c.requires.index
+pub returns-then-name-len : goal.returns-then-name-len
+returns-then-name-len c =
+    let dag = c.args.plan.now.dag in
+    let task = c.args.name.task in
+    let tasks : length c.dag-dag.result.now.tasks ≡ length dag.tasks = ap (λ (d : Dag). length d.tasks) c.dag-dag.ensures.dag in
+    let within : task < length dag.tasks = omega (arith, c.if-name-len.true, c.len.ensures, tasks) in
+    c.find_by_index.ensures
+    ∙ answer_found (shape_of dag).ids (task_of dag task).id c.args.date c.args.name (task_found dag task c.dag-dag.ensures.named within) c.requires.long c.args.entries.now
+    c.args.index.now c.requires.index

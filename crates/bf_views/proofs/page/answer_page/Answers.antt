@@ -36,7 +36,7 @@ returns-clause-answer g c =
       read = read;
       journal_is = refl;
     } in
-    let told : _ = rw same at c.write_page_beside-written.ensures.answer c.args.asked in
+    let told : _ = rw same at c.write_page_if_matching-written.ensures.answer c.args.asked in
     told is
 
 pub returns-clause-fault : goal.returns-clause-fault
@@ -53,7 +53,7 @@ returns-clause-fault g c =
       read = read;
       journal_is = refl;
     } in
-    let told : _ = rw same at c.write_page_beside-written.ensures.fault c.args.asked in
+    let told : _ = rw same at c.write_page_if_matching-written.ensures.fault c.args.asked in
     told is
 
 pub returns-clause-left : goal.returns-clause-left
@@ -70,5 +70,5 @@ returns-clause-left g c =
       read = read;
       journal_is = refl;
     } in
-    let told : _ = rw same at c.write_page_beside-written.ensures.left c.args.asked in
+    let told : _ = rw same at c.write_page_if_matching-written.ensures.left c.args.asked in
     told is

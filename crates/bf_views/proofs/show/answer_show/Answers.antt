@@ -48,7 +48,7 @@ returns-clause-answer g c =
     let path = string_bytes c.args.asked.report in
     let stays = c.in_ok-planned.ensures.stays path in
     let read : IsReadOf (files path) c.in_ok-report.report = record { readable = subst IsReadable stays c.in_ok-report.ensures.readable; says = λ held told. c.in_ok-report.ensures.says held (stays ∙ told) } in
-    c.write_grid_beside-written.ensures.answer files c.args.asked c.args.canvas (record {
+    c.write_grid_if_matching-written.ensures.answer files c.args.asked c.args.canvas (record {
       bounds = c.in_ok-bounds.bounds;
       means = c.in_ok-bounds.ensures.means;
       ordered = c.in_ok-refuse_reversed.ensures.ok;
@@ -64,7 +64,7 @@ returns-clause-fault g c =
     let path = string_bytes c.args.asked.report in
     let stays = c.in_ok-planned.ensures.stays path in
     let read : IsReadOf (files path) c.in_ok-report.report = record { readable = subst IsReadable stays c.in_ok-report.ensures.readable; says = λ held told. c.in_ok-report.ensures.says held (stays ∙ told) } in
-    c.write_grid_beside-written.ensures.fault files c.args.asked c.args.canvas (record {
+    c.write_grid_if_matching-written.ensures.fault files c.args.asked c.args.canvas (record {
       bounds = c.in_ok-bounds.bounds;
       means = c.in_ok-bounds.ensures.means;
       ordered = c.in_ok-refuse_reversed.ensures.ok;
@@ -80,7 +80,7 @@ returns-clause-left g c =
     let path = string_bytes c.args.asked.report in
     let stays = c.in_ok-planned.ensures.stays path in
     let read : IsReadOf (files path) c.in_ok-report.report = record { readable = subst IsReadable stays c.in_ok-report.ensures.readable; says = λ held told. c.in_ok-report.ensures.says held (stays ∙ told) } in
-    c.write_grid_beside-written.ensures.left files c.args.asked c.args.canvas (record {
+    c.write_grid_if_matching-written.ensures.left files c.args.asked c.args.canvas (record {
       bounds = c.in_ok-bounds.bounds;
       means = c.in_ok-bounds.ensures.means;
       ordered = c.in_ok-refuse_reversed.ensures.ok;

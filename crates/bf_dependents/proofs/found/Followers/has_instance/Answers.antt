@@ -6,6 +6,6 @@ use Rattle.bf_dependents.proofs.found.Followers.has_instance.Goals as goal
 pub returns-then-is_touched : goal.returns-then-is_touched
 returns-then-is_touched c =
     let index : to_z w32 (of_z w32 c.args.index) ≡ c.args.index = to_z-of_z w32 c.args.index c.ranges.index in
-    c.is_led_to.ensures
+    c.follows_if_touched.ensures
     ∙ (ap (is_led_to_in c.args.dag.now c.args.self.now c.args.run c.args.task) index
     ∙ sym (ap (λ b. b && is_led_to_in c.args.dag.now c.args.self.now c.args.run c.args.task c.args.index) (sym c.is_touched.ensures ∙ c.if-is_touched.true)))

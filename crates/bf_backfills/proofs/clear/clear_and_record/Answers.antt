@@ -1,6 +1,6 @@
 use Rattle.bf_commands.proofs.Results.{leaves_as, sends_as}
 use Rattle.bf_backfills.proofs.Recorded.{after_journal}
-use Rattle.bf_backfills.proofs.clear.resume_recorded.Goals as goal
+use Rattle.bf_backfills.proofs.clear.clear_and_record.Goals as goal
 
 pub returns-clause-ok : goal.returns-clause-ok
 returns-clause-ok g c =

@@ -3,7 +3,7 @@ use Rattle.bf_dependents.specs.declared.seeds.Seed.{Seed}
 use Rattle.bf_planning.proofs.Results.{handed_on}
 use Rattle.bf_backfills.specs.Commands.{MeanSeeds}
 use Rattle.bf_backfills.proofs.MeantSeeds.{one_more, unmeant_at}
-use Rattle.bf_backfills.proofs.named.seeds_of.Goals as goal
+use Rattle.bf_backfills.proofs.named.read_seeds.Goals as goal
 
 pub returns-in_err-seed-clause-bad : goal.returns-in_err-seed-clause-bad
 returns-in_err-seed-clause-bad c =

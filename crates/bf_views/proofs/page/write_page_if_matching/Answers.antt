@@ -10,7 +10,7 @@ use Rattle.bf_views.specs.inner.Refused.{IsRefusedBy}
 use Rattle.bf_views.specs.inner.Times.{IsNamedJournalFault}
 use Rattle.bf_views.proofs.PageEnds.{err_is, journal_page, page_answer, refusal_page, writing_page}
 use Rattle.bf_views.proofs.ReportedEnds.{unwritten_leaves}
-use Rattle.bf_views.proofs.page.write_page_beside.Goals as goal
+use Rattle.bf_views.proofs.page.write_page_if_matching.Goals as goal
 
 pub returns-in_err-refuse_other_graph-clause-fault : goal.returns-in_err-refuse_other_graph-clause-fault
 returns-in_err-refuse_other_graph-clause-fault g c asked is =

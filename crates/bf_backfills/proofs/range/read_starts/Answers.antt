@@ -2,7 +2,7 @@ use Rattle.std.proofs.Common.{ℕ, List, string_bytes, refl, sym, subst}
 use Rattle.bf_days.specs.Days.{SpellDays}
 use Rattle.bf_days.specs.declared.days.Days.{Days}
 use Rattle.bf_backfills.specs.Commands.{IsNoStarts}
-use Rattle.bf_backfills.proofs.range.starts_of.Goals as goal
+use Rattle.bf_backfills.proofs.range.read_starts.Goals as goal
 
 pub returns-in-None-clause-bad : goal.returns-in-None-clause-bad
 returns-in-None-clause-bad c =

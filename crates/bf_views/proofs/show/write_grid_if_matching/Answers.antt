@@ -9,7 +9,7 @@ use Rattle.bf_views.specs.inner.Refused.{IsRefusedBy}
 use Rattle.bf_views.proofs.GridEnds.{grid_answer, reported_fault}
 use Rattle.bf_views.proofs.PageEnds.{err_is}
 use Rattle.bf_views.proofs.ReportedEnds.{refusal_fault, unwritten_leaves, writing_fault}
-use Rattle.bf_views.proofs.show.write_grid_beside.Goals as goal
+use Rattle.bf_views.proofs.show.write_grid_if_matching.Goals as goal
 
 pub returns-in_err-refuse_other_graph-clause-fault : goal.returns-in_err-refuse_other_graph-clause-fault
 returns-in_err-refuse_other_graph-clause-fault g c files asked canvas is =

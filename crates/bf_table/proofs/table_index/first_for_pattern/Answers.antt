@@ -3,7 +3,7 @@ use Rattle.std.specs.BTreeMap as tree
 use Rattle.bf_table.specs.TableIndex.{pattern_cmp}
 use Rattle.bf_table.specs.inner.TableIndex.{earlier_place_of, keys_with_task}
 use Rattle.bf_table.proofs.IndexLemmas.{two_groups}
-use Rattle.bf_table.proofs.table_index.first_for_try.Goals as goal
+use Rattle.bf_table.proofs.table_index.first_for_pattern.Goals as goal
 
 pub returns : goal.returns
 returns c =
