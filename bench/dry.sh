@@ -1,9 +1,11 @@
 #!/usr/bin/env bash
 # Times `backfill dry`, with starting the program, and measures its peak memory, for each task instance: over many tasks, over
-# many runs of which few, one or all may be open at once, and over an expanded task. The half of each shows how both grow.
+# many runs of which few, one or all may be open at once, and over an expanded task. The half of each shows how both grow. Where there
+# is a rustc, beside the least that such a backfill costs (bench/floor.rs), whose reports have to be the same.
 set -euo pipefail
 
 source "$(dirname "$(readlink -f "${BASH_SOURCE[0]}")")/program.sh"
+[[ -z $(command -v rustc) ]] || rustc -O -o "$work/floor" "$root/bench/floor.rs"
 
 python3 - "$program" "$work" "$root/bench/graph.py" <<'PY'
 import datetime
@@ -35,35 +37,64 @@ def items(count):
     return json.dumps([{"task": "src", "out": json.dumps(list(range(count)))}])
 
 
-def measured(graph, table, runs):
-    """The least time of three runs of the program in seconds, and the peak memory of the last in bytes."""
+def entries(tasks):
+    """A table of which an entry answers for each task, and pushes nothing."""
+    return json.dumps([{"task": f"t{task}"} for task in range(tasks)])
+
+
+def run_of(words):
+    """The time of a command in seconds, and its peak memory in bytes."""
+    start = time.monotonic()
+    child = subprocess.Popen(words, stdout=subprocess.DEVNULL)
+    _, status, usage = os.wait4(child.pid, 0)
+    if status != 0:
+        sys.exit(f"{' '.join(words)} ended with {status}")
+    return time.monotonic() - start, usage.ru_maxrss * 1024
+
+
+def least_of(words):
+    """The least time of three runs of a command, and its least peak memory."""
+    return tuple(map(min, zip(*(run_of(words) for _ in range(3)))))
+
+
+def told_by(words):
+    return subprocess.run(words, stdout=subprocess.PIPE, check=True).stdout
+
+
+def dry_of(graph, table, runs):
+    """The command of a backfill over so many days."""
     for name, text in (("graph", graph), ("table", table)):
         with open(f"{work}/{name}.json", "w") as file:
             file.write(text)
     last = FIRST_DAY + datetime.timedelta(days=runs - 1)
-    words = [program, "dry", f"{work}/graph.json", f"{work}/table.json", "--from", f"{FIRST_DAY}", "--to", f"{last}"]
-    times = []
-    for _ in range(3):
-        start = time.monotonic()
-        child = subprocess.Popen(words, stdout=subprocess.DEVNULL)
-        _, status, usage = os.wait4(child.pid, 0)
-        times.append(time.monotonic() - start)
-        if status != 0:
-            sys.exit(f"{' '.join(words)} ended with {status}")
-    return min(times), usage.ru_maxrss * 1024
+    return [program, "dry", f"{work}/graph.json", f"{work}/table.json", "--from", f"{FIRST_DAY}", "--to", f"{last}"]
 
 
-for name, graph, table, runs, instances in (
-    ("1,000 tasks x 100 runs", graph_of(1_000), "[]", 100, 100_000),
-    ("2,000 tasks x 100 runs", graph_of(2_000), "[]", 100, 200_000),
-    ("200 tasks x 500 runs", graph_of(200), "[]", 500, 100_000),
-    ("200 tasks x 1,000 runs", graph_of(200), "[]", 1_000, 200_000),
-    ("200 tasks x 1,000 runs, 1 open", graph_of(200, 1), "[]", 1_000, 200_000),
-    ("200 tasks x 1,000 runs, 1,000 open", graph_of(200, 4_096), "[]", 1_000, 200_000),
-    ("512 items x 50 runs", mapped(), items(512), 50, 513 * 50),
-    ("1,024 items x 50 runs", mapped(), items(1_024), 50, 1_025 * 50),
-    ("1,024 items x 50 runs, each pulls all", mapped(command=["true", {"pull": "src"}]), items(1_024), 50, 1_025 * 50),
+def beside(words, dry, seconds, instances):
+    """How many times the least that a backfill costs the program took, where its report is the same."""
+    floor = f"{work}/floor"
+    if not words or not os.path.exists(floor):
+        return ""
+    if told_by([floor, *words]) != told_by(dry):
+        sys.exit(f"floor {' '.join(words)} reports otherwise")
+    least, peak = least_of([floor, *words])
+    return f", {seconds / least:.1f} times the floor, which took {peak / instances:.0f} bytes"
+
+
+for name, graph, table, runs, instances, floor in (
+    ("1,000 tasks x 100 runs", graph_of(1_000), "[]", 100, 100_000, "1000 100 16"),
+    ("2,000 tasks x 100 runs", graph_of(2_000), "[]", 100, 200_000, "2000 100 16"),
+    ("200 tasks x 500 runs", graph_of(200), "[]", 500, 100_000, "200 500 16"),
+    ("200 tasks x 1,000 runs", graph_of(200), "[]", 1_000, 200_000, "200 1000 16"),
+    ("200 tasks x 1,000 runs, 1 open", graph_of(200, 1), "[]", 1_000, 200_000, "200 1000 1"),
+    ("200 tasks x 1,000 runs, 1,000 open", graph_of(200, 4_096), "[]", 1_000, 200_000, "200 1000 4096"),
+    ("200 tasks x 1,000 runs, an entry for each task", graph_of(200), entries(200), 1_000, 200_000, ""),
+    ("512 items x 50 runs", mapped(), items(512), 50, 513 * 50, "items 512 50"),
+    ("1,024 items x 50 runs", mapped(), items(1_024), 50, 1_025 * 50, "items 1024 50"),
+    ("1,024 items x 50 runs, each pulls all", mapped(command=["true", {"pull": "src"}]), items(1_024), 50, 1_025 * 50, ""),
 ):
-    seconds, peak = measured(graph, table, runs)
-    print(f"{name}: {seconds:.2f} s, {seconds / instances * 1e6:.2f} us and {peak / instances:.0f} bytes a task instance")
+    dry = dry_of(graph, table, runs)
+    seconds, peak = least_of(dry)
+    each = f"{seconds:.2f} s, {seconds / instances * 1e6:.2f} us and {peak / instances:.0f} bytes a task instance"
+    print(f"{name}: {each}{beside(floor.split(), dry, seconds, instances)}", flush=True)
 PY
