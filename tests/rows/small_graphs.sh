@@ -435,11 +435,36 @@ while IFS= read -r row; do
     tells 2 "refused 19 bad table: ${row##* => }" single "$graph" "$table" --at 2024-01-01
 done <<'ROWS'
 {} => file
+ => file
+[ => file
+null => file
+[] [] => file
 [{},{"status":256},{"exit":1}] => 1
 [{},{},{"exit":1}] => 2
 [{"run":"2024-01-01"}] => 0
+[1] => 0
+[{},[]] => 1
+[{"task":1}] => 0
+[{"task":null}] => 0
+[{"status":256}] => 0
+[{"status":-1}] => 0
+[{"status":0.5}] => 0
+[{"status":"1"}] => 0
+[{"status":null}] => 0
+[{"out":1}] => 0
+[{"out":null}] => 0
+[{"index":"1"}] => 0
+[{"index":-0}] => 0
+[{"try":1.0}] => 0
+[{"try":9223372036854775808}] => 0
+[{"run":"2024-02-30T00:00:00Z"}] => 0
+[{"run":"2024-01-01T00:00:60Z"}] => 0
+[{"run":1}] => 0
+[{},{"status":255},{"exit":1},{"status":256}] => 2
+[{},{},{},{},{},{},{},{},{},{},{"runs":""}] => 10
 ROWS
 echo '[]' > "$table"
+
 # Data intervals where the clock goes on and back, by days and weekdays, and at the ends of the years.
 
 europe=CET-1CEST,M3.5.0,M10.5.0/3

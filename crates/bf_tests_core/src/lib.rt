@@ -1,5 +1,4 @@
-//! Tests of the core and of what stands between it and graphs: pulls and words, tables, and the events of a run, chosen by
-//! hand.
+//! Tests of the core and of what stands between it and graphs: pulls and words, and the events of a run, chosen by hand.
 //!
 //! A clause needs no test. What stands here is what no clause says: values worked out by hand.
 #![tactic(auto)]
@@ -16,8 +15,6 @@ mod pools;
 mod pulls;
 #[cfg(test)]
 mod steps;
-#[cfg(test)]
-mod tables;
 #[cfg(test)]
 mod tries;
 #[cfg(test)]

@@ -6,6 +6,4 @@
 #[cfg(test)]
 mod devices;
 #[cfg(test)]
-mod reading;
-#[cfg(test)]
 mod reports;

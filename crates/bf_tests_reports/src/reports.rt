@@ -37,7 +37,7 @@ pub const FULL: &str = "@backfill 1 full-graph_1.0\n\
     @end 3\n";
 
 /// A report of version 2: a list, an instance for each of its items, and what was pulled from these.
-pub const TWO: &str = "@backfill 2 d\n\
+const TWO: &str = "@backfill 2 d\n\
     @run 2024-01-01T00:00:00Z 2024-01-02T00:00:00Z success\n\
     src -1 success 1 [3,1,2]\n\
     m 0 success 1 3\n\
