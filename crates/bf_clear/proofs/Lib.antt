@@ -5,6 +5,7 @@ pub mod Lookups
 pub mod Replies
 pub mod Within
 pub mod Own
+pub mod Equations
 pub mod Sharing
 pub mod Failures
 pub mod Aligned

@@ -8,10 +8,9 @@ use Rattle.bf_try.specs.Tries.{Ledger}
 use Rattle.bf_report.specs.declared.report.TaskReport.{TaskReport}
 use Rattle.bf_report.specs.declared.report.RunReport.{RunReport}
 use Rattle.bf_report.specs.declared.report.Report.{Report}
-use Rattle.bf_dependents.specs.declared.fault.ClearFault.{ClearFault}
 use Rattle.bf_dependents.specs.declared.place.Place.{Place}
 use Rattle.bf_clear.specs.Keeping.{AreKept}
-use Rattle.bf_clear.specs.Matching.{fault_after, is_same_interval_in}
+use Rattle.bf_clear.specs.Matching.{is_same_interval_in}
 
 abbrev pub or_nothing : Option TaskReport → TaskReport
 or_nothing None = TaskReport.NoStatus
@@ -59,7 +58,3 @@ pub record AreKeptByIds (dag : Dag) (intervals : List Interval) (seeds : List Pl
   pub aligned : Report
   pub is_aligned : IsAligned dag intervals report aligned
   pub are_kept : AreKept dag seeds aligned kept
-
--- the report is one of another graph
-abbrev pub keep_fault : Dag → Report → Option ClearFault
-keep_fault dag report = fault_after None (bytes_eq report.dag_id dag.id)

@@ -1,5 +1,5 @@
--- Whether a report is one of a plan over data intervals, and the refusals of clearing.
-use Rattle.std.specs.Prelude.{ℕ, ◌==◌, ◌&&◌, ◌||◌, Bool, true, false, List, length, Option, Some, None, slice_get}
+-- Whether a report is one of a plan over data intervals.
+use Rattle.std.specs.Prelude.{◌≡◌, ◌⊎◌, ℕ, ◌==◌, ◌&&◌, ◌||◌, Bool, true, false, All, List, [], ◌∷◌, length, map, Option, Some, None, option_map, slice_get}
 use Rattle.std.specs.List.{list_all, zip}
 use Rattle.std.specs.Ordering.{int_eq}
 use Rattle.std.specs.Str.{bytes_eq}
@@ -13,8 +13,40 @@ use Rattle.bf_report.specs.declared.report.TaskReport.{TaskReport}
 use Rattle.bf_report.specs.declared.report.RunReport.{RunReport}
 use Rattle.bf_report.specs.declared.report.Report.{Report}
 use Rattle.bf_dependents.specs.declared.fault.ClearFault.{ClearFault}
-use Rattle.bf_dependents.specs.declared.seeds.Seed.{Seed}
-use Rattle.bf_dependents.specs.Seeds.{seed_fault}
+
+abbrev pub instances_told : TaskReport → List InstanceReport
+instances_told (TaskReport.Ran instance) = instance ∷ []
+instances_told (TaskReport.Mapped instances) = instances
+instances_told _ = []
+
+-- the ids of the tasks that it pulls from; None for a number that no task has
+abbrev pub ids_pulled : Dag → Task → List (Option (List ℕ))
+ids_pulled dag task =
+    map (λ source. option_map (λ (other : Task). other.id) (slice_get dag.tasks source)) task.pulls
+
+-- each instance pulled from the tasks that its task pulls from, in order
+abbrev pub HasPulls : Dag → TaskReport → Task → Type 0
+HasPulls dag report task =
+    All (λ (instance : InstanceReport). map (λ pull. Some pull.task) instance.pulls
+    ≡ ids_pulled dag task) (instances_told report)
+
+-- the report is one of the plan's dag over these data intervals
+pub record MatchesPlan (dag : Dag) (intervals : List Interval) (report : Report) : Type 0 where
+  pub dag_id : report.dag_id ≡ dag.id
+  pub ids : (intervals ≡ []) ⊎ (report.tasks ≡ map (λ (task : Task). task.id) dag.tasks)
+  pub runs : map (λ (run : RunReport). run.interval) report.runs ≡ intervals
+  pub sizes : All (λ (run : RunReport). length run.tasks ≡ length dag.tasks) report.runs
+  pub pulls : report.version ≡ Version.Two → All (λ (run : RunReport).
+      All (λ (pair : TaskReport × Task). HasPulls dag pair.0 pair.1) (zip run.tasks dag.tasks))
+      report.runs
+
+-- a report is refused for this: it doesn't match; or memory is wanting
+abbrev pub IsRefusedFor : Type 0 → ClearFault → Type 0
+IsRefusedFor Matches ClearFault.ReportMismatch = Matches → ⊥
+IsRefusedFor Matches ClearFault.OutOfMemory = Unit {0}
+IsRefusedFor Matches _ = ⊥
+
+-- ---- as a test
 
 -- it is the id of the task, where there is one
 abbrev pub has_id_in : Option Task → List ℕ → Bool
@@ -64,28 +96,9 @@ are_runs_in version dag runs intervals =
     (length runs == length intervals)
     && list_all (λ pair. is_run_in version dag pair.0 pair.1) (zip runs intervals)
 
--- the report has the dag id, the data intervals and the tasks of the plan, and in version 2 their pulls; one without runs has no ids of tasks
+-- the report matches the plan (law `reports_match_by_equations`)
 unfoldable pub is_report_in : Dag → List Interval → Report → Bool
 is_report_in dag intervals report =
     bytes_eq report.dag_id dag.id
     && ((length intervals == 0 || are_ids_in report.tasks dag.tasks)
     && are_runs_in report.version dag report.runs intervals)
-
--- ---- refusals
-
-abbrev pub fault_after : Option ClearFault → Bool → Option ClearFault
-fault_after (Some fault) is_of_plan = Some fault
-fault_after None true = None
-fault_after None false = Some ClearFault.ReportMismatch
-
--- the first fault: of the seeds, and else that the report isn't one of the plan over the intervals
-abbrev pub clear_fault : Dag → List Interval → Report → List Seed → Option ClearFault
-clear_fault dag intervals report seeds =
-    fault_after (seed_fault dag intervals seeds) (is_report_in dag intervals report)
-
--- what is refused; want of memory refuses nothing
-abbrev pub refusal : ClearFault → Option ClearFault
-refusal ClearFault.UnknownTask = Some ClearFault.UnknownTask
-refusal ClearFault.UnknownRun = Some ClearFault.UnknownRun
-refusal ClearFault.ReportMismatch = Some ClearFault.ReportMismatch
-refusal ClearFault.OutOfMemory = None

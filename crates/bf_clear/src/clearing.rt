@@ -1,11 +1,11 @@
 //! What is kept of a report, and what is cleared in it.
-ghost use Rattle.std.specs.Prelude.{◌≡◌, [], None, IfOk, IfErr, length};
+ghost use Rattle.std.specs.Prelude.{◌≡◌, IfOk, IfErr, length};
 ghost use Rattle.bf_kept.specs.Kept.{AreFit};
 ghost use Rattle.bf_dependents.specs.Dependents.{AreDependents};
-ghost use Rattle.bf_clear.specs.Aligning.{keep_fault, AreKeptByIds};
+ghost use Rattle.bf_clear.specs.Aligning.{AreKeptByIds};
 ghost use Rattle.bf_clear.specs.inner.Entries.{IsWithin};
 ghost use Rattle.bf_clear.specs.Keeping.{kept_in, AreKept};
-ghost use Rattle.bf_clear.specs.Matching.{clear_fault, refusal};
+ghost use Rattle.bf_clear.specs.Matching.{IsRefusedFor, MatchesPlan};
 
 use crate::aligning::align;
 use crate::cleared::Cleared;
@@ -48,13 +48,13 @@ pub fn clear_places_by_ids<'a>(
     report: Report,
     places: &[Place],
 ) -> Result<Cleared<'a>, ClearFault>
-    ensures ok { IfOk result (λ kept. keep_fault plan.entry.now.dag report ≡ None) }
+    ensures ok { IfOk result (λ kept. report.dag_id ≡ plan.entry.now.dag.id) }
     ensures kept { IfOk result (λ kept. AreKeptByIds plan.entry.now.dag runs.now places.now report
         (kept_in kept)) }
     ensures follows { IfOk result (λ kept. AreDependents plan.entry.now.dag places.now
         (length runs.now) kept.cleared) }
     ensures fit { IfOk result (λ kept. AreFit plan.entry.now.dag (kept_in kept)) }
-    ensures err { IfErr result (λ fault. keep_fault plan.entry.now.dag report ≡ refusal fault) }
+    ensures err { IfErr result (IsRefusedFor (report.dag_id ≡ plan.entry.now.dag.id)) }
 {
     if !is_of_dag(plan.dag(), &report) {
         return Err(ClearFault::ReportMismatch);
@@ -74,14 +74,13 @@ pub fn clear_places<'a>(
     report: Report,
     places: &[Place],
 ) -> Result<Cleared<'a>, ClearFault>
-    ensures ok { IfOk result (λ kept. clear_fault plan.entry.now.dag runs.now report [] ≡ None) }
+    ensures ok { IfOk result (λ kept. MatchesPlan plan.entry.now.dag runs.now report) }
     ensures kept { IfOk result (λ kept. AreKept plan.entry.now.dag places.now report
         (kept_in kept)) }
     ensures follows { IfOk result (λ kept. AreDependents plan.entry.now.dag places.now
         (length runs.now) kept.cleared) }
     ensures fit { IfOk result (λ kept. AreFit plan.entry.now.dag (kept_in kept)) }
-    ensures err { IfErr result (λ fault. clear_fault plan.entry.now.dag runs.now report []
-        ≡ refusal fault) }
+    ensures err { IfErr result (IsRefusedFor (MatchesPlan plan.entry.now.dag runs.now report)) }
 {
     if !is_report_of(plan.dag(), runs.intervals(), &report) {
         return Err(ClearFault::ReportMismatch);

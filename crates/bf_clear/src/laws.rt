@@ -1,6 +1,6 @@
 //! What holds of every backfill that goes on from a report. These functions do nothing: their contracts are the laws, over the
 //! definitions alone.
-ghost use Rattle.std.specs.Prelude.{◌≡◌, ℕ, true, List, Some, length, slice_get};
+ghost use Rattle.std.specs.Prelude.{◌≡◌, ◌↔◌, ℕ, true, List, Some, length, slice_get};
 ghost use Rattle.bf_value.specs.declared.name.JobName.{JobName};
 ghost use Rattle.bf_interval.specs.declared.interval.Interval.{Interval};
 ghost use Rattle.bf_interval.specs.Runs.{AreOfRuns};
@@ -16,7 +16,7 @@ ghost use Rattle.bf_dependents.specs.Dependents.{IsBeside};
 ghost use Rattle.bf_clear.specs.Aligning.{IsAligned};
 ghost use Rattle.bf_clear.specs.Entries.{told};
 ghost use Rattle.bf_clear.specs.Keeping.{AreKept};
-ghost use Rattle.bf_clear.specs.Matching.{is_report_in};
+ghost use Rattle.bf_clear.specs.Matching.{MatchesPlan, is_report_in};
 
 /// A law: the report of a backfill that has ended tells exactly the entries of its ledger.
 pub fn reports_tell_ledgers()
@@ -38,12 +38,18 @@ pub fn resumed_backfills_keep_the_rest()
         (n : JobName) → IsBeside dag seeds n → resumed n ≡ was n }
 {}
 
-/// A law: the report of a backfill of a plan over data intervals is one of this plan over them, as `is_report_of`
-/// decides.
+/// A law: `is_report_of` answers true exactly where the dag ids, the data intervals, the ids of tasks and, in version 2,
+/// the tasks that each instance pulled from are equal, as `MatchesPlan` says.
+pub fn reports_match_by_equations()
+    ensures { (dag : Dag) (intervals : List Interval) (report : Report) →
+        is_report_in dag intervals report ≡ true ↔ MatchesPlan dag intervals report }
+{}
+
+/// A law: the report of a backfill of a plan over data intervals is one of this plan over them.
 pub fn own_reports_match()
     ensures { (dag : Dag) → IsSound dag
         → (intervals : List Interval) (ledger : Ledger) (report : Report) →
-        IsDated dag intervals ledger report → is_report_in dag intervals report ≡ true }
+        IsDated dag intervals ledger report → MatchesPlan dag intervals report }
 {}
 
 /// A law: a report brought into the shape of other data intervals, by `align`, still tells exactly the entries of its

@@ -12,13 +12,13 @@ use Rattle.bf_kept.specs.Kept.{MayGiveUpAnew}
 use Rattle.bf_report.specs.declared.report.Report.{Report}
 use Rattle.bf_dependents.specs.declared.fault.ClearFault.{ClearFault}
 use Rattle.bf_dependents.specs.declared.place.Place.{Place}
-use Rattle.bf_clear.specs.Matching.{refusal}
+use Rattle.bf_clear.specs.Matching.{IsRefusedFor}
 use Rattle.bf_command_fault.specs.Refusal.{of_clear}
 use Rattle.bf_command_fault.specs.declared.fault.CommandFault.{CommandFault}
 use Rattle.bf_command_fault.specs.declared.fault.CommandFault.TheVariants.{Clear as NotCleared, OutOfMemory, Seeds as BadSeeds}
 use Rattle.bf_commands.specs.declared.cleared.ToClear.{ToClear}
 use Rattle.bf_planning.specs.declared.range.RunRange.{RunRange}
-use Rattle.bf_commands.specs.Cleared.{report_fault, AreAnswersIn, AreCleared, ClearingFault, IsFaultBefore, IsKeptOf, IsPrepared, IsUncleared, IsUnknown}
+use Rattle.bf_commands.specs.Cleared.{AreAnswersIn, AreCleared, ClearingFault, IsFaultBefore, IsKeptOf, IsPrepared, IsUncleared, IsUnknown, MatchesFor}
 use Rattle.bf_commands.specs.inner.Cleared.{IsFaultOfNamed, IsStopOrWantingFrom}
 use Rattle.bf_planning.specs.Graphs.{IsPlanOf}
 use Rattle.bf_planning.specs.Lists.{HasListing, IsRangeFault}
@@ -47,10 +47,10 @@ module _ (dag : Dag) (intervals : List Interval) (was : Report) (what : ToClear)
   unknown_uncleared (NotCleared fault) is = inl is
   unknown_uncleared _ is = is
 
-  pub mismatch_uncleared : (places : List Place) → AreCleared dag intervals was what places → (fault : ClearFault) → report_fault what dag intervals was ≡ refusal fault → IsUncleared dag intervals was what (of_clear fault)
-  mismatch_uncleared places are ClearFault.UnknownTask is = inr (places, are, is)
-  mismatch_uncleared places are ClearFault.UnknownRun is = inr (places, are, is)
-  mismatch_uncleared places are ClearFault.ReportMismatch is = inr (places, are, is)
+  pub mismatch_uncleared : (places : List Place) → AreCleared dag intervals was what places → (fault : ClearFault) → IsRefusedFor (MatchesFor what dag intervals was) fault → IsUncleared dag intervals was what (of_clear fault)
+  mismatch_uncleared places are ClearFault.UnknownTask is = absurd is
+  mismatch_uncleared places are ClearFault.UnknownRun is = absurd is
+  mismatch_uncleared places are ClearFault.ReportMismatch is = inr (places, are, is, refl)
   mismatch_uncleared places are ClearFault.OutOfMemory is = tt
 
   pub uncleared_again : (alone : Bool) (launching : LaunchingOf) (may_lose : Losing) (answers : Option (List TableEntry)) (fault : CommandFault) → IsUncleared dag intervals was what fault

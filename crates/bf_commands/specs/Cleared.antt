@@ -21,10 +21,10 @@ use Rattle.bf_dependents.specs.Seeds.{places_in, seed_fault}
 use Rattle.bf_seeds.specs.declared.fault.SeedsFault.{SeedsFault}
 use Rattle.bf_seeds.specs.declared.fault.SeedsFault.TheVariants.{Unknown}
 use Rattle.bf_seeds.specs.Seeds.{AreSeedsOfFile, IsFaultOfFile}
-use Rattle.bf_clear.specs.Aligning.{AreKeptByIds, keep_fault}
+use Rattle.bf_clear.specs.Aligning.{AreKeptByIds}
 use Rattle.bf_clear.specs.Failing.{AreFailed}
 use Rattle.bf_clear.specs.Keeping.{AreKept}
-use Rattle.bf_clear.specs.Matching.{clear_fault}
+use Rattle.bf_clear.specs.Matching.{MatchesPlan}
 use Rattle.bf_command_fault.specs.declared.fault.CommandFault.{CommandFault}
 use Rattle.bf_command_fault.specs.declared.fault.CommandFault.TheVariants.{Clear as NotCleared, OutOfMemory, Range, Seeds as BadSeeds, Stopped, Table}
 use Rattle.bf_command_fault.specs.declared.stop.StopFault.{StopFault}
@@ -56,10 +56,10 @@ AreCleared dag intervals was (to_clear.File bytes) places =
 AreCleared dag intervals was to_clear.Failed places = AreFailed dag intervals was places
 AreCleared dag intervals was to_clear.Nothing places = places ≡ []
 
--- why the report is refused: it is none of the plan over these data intervals; or where nothing is cleared, none of the graph
-abbrev pub report_fault : ToClear → Dag → List Interval → Report → Option ClearFault
-report_fault to_clear.Nothing dag intervals was = keep_fault dag was
-report_fault what dag intervals was = clear_fault dag intervals was []
+-- the report is one of the plan over these data intervals; or where nothing is cleared, one of the graph
+abbrev pub MatchesFor : ToClear → Dag → List Interval → Report → Type 0
+MatchesFor to_clear.Nothing dag intervals was = was.dag_id ≡ dag.id
+MatchesFor what dag intervals was = MatchesPlan dag intervals was
 
 -- this is kept of the report where these places are cleared; where nothing is, of what it tells by ids and data intervals
 abbrev pub AreKeptFor : ToClear → Dag → List Interval → List Place → Report → Ledger → Type 0
@@ -67,12 +67,12 @@ AreKeptFor to_clear.Nothing dag intervals places was kept =
     AreKeptByIds dag intervals places was kept
 AreKeptFor what dag intervals places was kept = AreKept dag places was kept
 
--- the report isn't refused, what is cleared is known, and this is what is kept
+-- the report matches, what is cleared is known, and this is what is kept
 pub record IsKeptOf (dag : Dag) (intervals : List Interval) (was : Report) (what : ToClear)
     (kept : Ledger) : Type 0 where
   pub places : List Place
   pub are_cleared : AreCleared dag intervals was what places
-  pub not_refused : report_fault what dag intervals was ≡ None
+  pub matches : MatchesFor what dag intervals was
   pub are_kept : AreKeptFor what dag intervals places was kept
 
 -- the text is the report of the backfill that goes on from what is kept of this report where this is cleared
@@ -157,11 +157,11 @@ IsUnknown dag intervals what (BadSeeds fault) = IsBadFile dag intervals what fau
 IsUnknown dag intervals what OutOfMemory = Unit {0}
 IsUnknown dag intervals what fault = ⊥
 
--- it is known, and the report is refused for this
+-- it is known, and the report, which doesn't match, is refused for this
 abbrev pub IsMismatch : Dag → List Interval → Report → ToClear → ClearFault → Type 0
 IsMismatch dag intervals was what fault =
     (places : List Place) × AreCleared dag intervals was what places
-    × (report_fault what dag intervals was ≡ Some fault)
+    × (MatchesFor what dag intervals was → ⊥) × (fault ≡ ClearFault.ReportMismatch)
 
 -- nothing is cleared for this; or memory is wanting
 abbrev pub IsUncleared : Dag → List Interval → Report → ToClear → CommandFault → Type 0

@@ -13,7 +13,7 @@ use Rattle.bf_report.specs.declared.report.Report.{Report}
 use Rattle.bf_command_fault.specs.declared.fault.CommandFault.{CommandFault}
 use Rattle.bf_command_fault.specs.declared.fault.CommandFault.TheVariants.{CannotWrite}
 use Rattle.bf_commands.specs.declared.cleared.ToClear.{ToClear}
-use Rattle.bf_commands.specs.Cleared.{report_fault, AreCleared, IsUncleared}
+use Rattle.bf_commands.specs.Cleared.{AreCleared, IsUncleared, MatchesFor}
 use Rattle.bf_commands.specs.Journaled.{Heading, TellsOf}
 
 abbrev pub index_words : Option ℤ → List ℕ
@@ -63,12 +63,12 @@ sum_line places =
     decimal (tasks_in places) ++ (codes " tasks in "
     ++ (decimal (runs_in places) ++ codes " runs\n"))
 
--- the report isn't refused, what is cleared is known, and this follows from it
+-- the report matches, what is cleared is known, and this follows from it
 pub record AreFollowing (dag : Dag) (intervals : List Interval) (was : Report) (what : ToClear)
     (following : Following) : Type 0 where
   pub seeds : List Place
   pub are_cleared : AreCleared dag intervals was what seeds
-  pub not_refused : report_fault what dag intervals was ≡ None
+  pub matches : MatchesFor what dag intervals was
   pub follows : AreDependents dag seeds (length intervals) following
 
 -- a line for each of these cleared places, and their sum

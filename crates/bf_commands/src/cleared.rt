@@ -4,8 +4,8 @@ ghost use Rattle.bf_kept.specs.Kept.{AreFit};
 ghost use Rattle.bf_dependents.specs.Dependents.{AreDependents};
 ghost use Rattle.bf_dependents.specs.Seeds.{places_in, seed_fault};
 ghost use Rattle.bf_clear.specs.Keeping.{kept_in};
-ghost use Rattle.bf_clear.specs.Matching.{refusal};
-ghost use Rattle.bf_commands.specs.Cleared.{report_fault, AreCleared, AreKeptFor, IsKeptOf, IsUncleared, IsUnknown};
+ghost use Rattle.bf_clear.specs.Matching.{IsRefusedFor};
+ghost use Rattle.bf_commands.specs.Cleared.{AreCleared, AreKeptFor, IsKeptOf, IsUncleared, IsUnknown, MatchesFor};
 ghost use Rattle.bf_commands.specs.Planned.{AreFollowing};
 ghost use Rattle.bf_commands.specs.inner.Cleared.{IsUnknownNamed};
 
@@ -81,15 +81,15 @@ pub(crate) fn keep_outside<'a>(
     what: &ToClear,
     places: &[Place],
 ) -> Result<Cleared<'a>, ClearFault>
-    ensures ok { IfOk result (λ kept. report_fault what.now dated.entry.now.plan.dag
-        dated.entry.now.runs report ≡ None) }
+    ensures ok { IfOk result (λ kept. MatchesFor what.now dated.entry.now.plan.dag
+        dated.entry.now.runs report) }
     ensures kept { IfOk result (λ kept. AreKeptFor what.now dated.entry.now.plan.dag
         dated.entry.now.runs places.now report (kept_in kept)) }
     ensures follows { IfOk result (λ kept. AreDependents dated.entry.now.plan.dag places.now
         (length dated.entry.now.runs) kept.cleared) }
     ensures fit { IfOk result (λ kept. AreFit dated.entry.now.plan.dag (kept_in kept)) }
-    ensures err { IfErr result (λ fault. report_fault what.now dated.entry.now.plan.dag
-        dated.entry.now.runs report ≡ refusal fault) }
+    ensures err { IfErr result (IsRefusedFor (MatchesFor what.now dated.entry.now.plan.dag
+        dated.entry.now.runs report)) }
 {
     match what {
         ToClear::Nothing => clear_places_by_ids(alloc, &dated.plan, &dated.runs, report, places),

@@ -21,7 +21,7 @@ pub fn id_at(dag: &Dag, task: u32) -> &str
 }
 
 /// What the first of these results pushed; None where there is no result or it pushed nothing.
-fn pushed_alone(results: &[TaskResult]) -> Option<&Xval>
+fn pushed_by_first(results: &[TaskResult]) -> Option<&Xval>
     ensures { option_copied result ≡ only_pushed_value_in results.now }
 {
     match results {
@@ -37,7 +37,7 @@ pub fn first_pushed_by<'a>(settled: &'a [Settled<'_>], task: u32) -> Option<&'a 
         ≡ only_pushed_value_in (results_of (value_among settled.entry.now task)) }
 {
     match settled.get(task as usize) {
-        Some(settled) => pushed_alone(settled.results()),
+        Some(settled) => pushed_by_first(settled.results()),
         None => None,
     }
 }

@@ -23,7 +23,7 @@ returns-clause-cleared c =
       kept_is = record {
         places = c.in_ok-places.places.items;
         are_cleared = c.in_ok-places.ensures.ok;
-        not_refused = c.in_ok-kept.ensures.ok;
+        matches = c.in_ok-kept.ensures.ok;
         are_kept = subst (λ (places : List Place). AreKeptFor c.args.what dag runs places c.args.report (kept_in c.in_ok-kept.kept)) c.as_slice.ensures.value c.in_ok-kept.ensures.kept;
       };
       tells = subst (λ (places : List Place). TellsOf dag runs places c.in_ok-cleared.cleared.items) c.as_slice-2.ensures.value c.in_ok-cleared.ensures;

@@ -21,6 +21,6 @@ returns-clause-kept c =
     record {
       places = c.in_ok-places.places.items;
       are_cleared = c.in_ok-places.ensures.ok;
-      not_refused = c.in_ok-keep_outside.ensures.ok;
+      matches = c.in_ok-keep_outside.ensures.ok;
       are_kept = subst (λ (places : List Place). AreKeptFor c.args.what.now dag runs places c.args.report (kept_in c.in_ok-keep_outside.field-0)) c.as_slice.ensures.value c.in_ok-keep_outside.ensures.kept;
     }
