@@ -2,3 +2,4 @@ pub mod Named
 pub mod CommandFaults
 pub mod Files
 pub mod Journals
+pub mod Telling

@@ -21,9 +21,7 @@ ghost use Rattle.bf_backfills.specs.inner.Journals.{IsFaultAfterBy, IsFaultSince
 ghost use Rattle.bf_backfills.specs.inner.Named.{IsReadFor, MeansNamed, path_of};
 
 use crate::journaled::record_clearing;
-use crate::launching::{
-    launching_asked, path_named, refuse_unstartable_launcher, tells_by_options,
-};
+use crate::launching::{launching_asked, path_named, refuse_unstartable_launcher, tells_asked};
 use crate::named::{Meant, UnreadToClear, meaning_of, read_to_clear};
 use bf_command_fault::{CommandFault, Status};
 use bf_command_line::{ClearAsked, GraphAsked, JournalAsked};
@@ -319,7 +317,7 @@ where
     let ready = read_with_report(alloc, asked.graph, asked.table, meant, asked.report, files)?;
     let (launcher, logs) = (asked.launcher, asked.logs);
     let by_programs = ready.prepared.answers.is_none();
-    let tells = tells_by_options(rt, by_programs, asked.quiet, asked.progress, &logs);
+    let tells = tells_asked(rt, by_programs, asked.quiet, asked.progress, logs.is_some());
     let crew = Crew::new(rt, alloc, asked.workers, asked.progress).with_launching(
         launching_asked(&launcher, &logs),
         tells,

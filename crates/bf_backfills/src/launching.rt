@@ -1,8 +1,9 @@
 //! How the programs of tries are launched, and whether tries that fail are told.
-ghost use Rattle.std.specs.Prelude.{◌≡◌, IfErr, OnOk, false, option_map, string_bytes, true};
+ghost use Rattle.std.specs.Prelude.{◌≡◌, Bool, IfErr, OnOk, option_map, string_bytes};
 ghost use Rattle.bf_process.specs.Words.{launching_of};
 ghost use Rattle.bf_backfills.specs.Commands.{IsLaunchable, launching_asked_of};
 ghost use Rattle.bf_backfills.specs.inner.CommandFaults.{IsFaultOfLauncher};
+ghost use Rattle.bf_backfills.specs.inner.Telling.{tells_asked_of};
 
 use bf_command_fault::CommandFault;
 use bf_commands::{Screen, Tells};
@@ -56,21 +57,21 @@ pub(crate) fn launching_asked<'a>(
 }
 
 /// What to tell on the screen besides the report: progress on a terminal; failed tries on a terminal, with `progress`,
-/// or with logs; nothing with `quiet`, or where a table answers. The contract covers only when nothing is told.
-pub(crate) fn tells_by_options<RT: Screen>(
+/// or with logs; nothing with `quiet`, or where a table answers.
+pub(crate) fn tells_asked<RT: Screen>(
     rt: &RT,
     by_programs: bool,
     quiet: bool,
     progress: bool,
-    logs: &Option<String>,
+    has_logs: bool,
 ) -> Tells
-    ensures quiet { quiet ≡ true → (result.progress ≡ false) × (result.failures ≡ false) }
-    ensures table { by_programs ≡ false → (result.progress ≡ false) × (result.failures ≡ false) }
+    ensures { (on_terminal : Bool) × (result
+        ≡ tells_asked_of on_terminal by_programs quiet progress has_logs) }
 {
     let is_terminal = rt.is_terminal();
     let tells = by_programs && !quiet;
     Tells {
         progress: tells && is_terminal,
-        failures: tells && (is_terminal || progress || logs.is_some()),
+        failures: tells && (is_terminal || progress || has_logs),
     }
 }

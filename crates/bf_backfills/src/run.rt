@@ -7,9 +7,7 @@ ghost use Rattle.bf_backfills.specs.Commands.{IsRunAnswer, machine_of};
 ghost use Rattle.bf_backfills.specs.CommandFaults.{IsRunFault};
 
 use crate::journaled::write_run_report;
-use crate::launching::{
-    launching_asked, path_named, refuse_unstartable_launcher, tells_by_options,
-};
+use crate::launching::{launching_asked, path_named, refuse_unstartable_launcher, tells_asked};
 use crate::range::range_of;
 use bf_command_fault::{CommandFault, Status};
 use bf_command_line::RunAsked;
@@ -58,7 +56,7 @@ where
     refuse_unstartable_launcher(journals, alloc, path_named(&asked.launcher))?;
     let files = read_graph_files(alloc, asked.graph, files)?;
     let (launcher, logs) = (asked.launcher, asked.logs);
-    let tells = tells_by_options(rt, true, asked.quiet, asked.progress, &logs);
+    let tells = tells_asked(rt, true, asked.quiet, asked.progress, logs.is_some());
     let crew = Crew::new(rt, alloc, asked.workers, asked.progress).with_launching(
         launching_asked(&launcher, &logs),
         tells,

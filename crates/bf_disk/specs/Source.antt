@@ -1,5 +1,5 @@
 -- What a source gives of a file.
-use Rattle.std.specs.Prelude.{◌≡◌, ◌≤◌, ◌<◌, ℕ, List, length, take, Option, Some, None, Result, Ok, Err, Vec, find, option_map, ⊤}
+use Rattle.std.specs.Prelude.{◌≡◌, ◌+◌, ℕ, List, take, Option, Some, None, Result, Ok, Err, Vec, find, option_map, ⊤}
 use Rattle.std.specs.Global.{Global}
 use Rattle.std.specs.Str.{bytes_eq}
 use Rattle.bf_disk.specs.declared.source.SourceFault.{SourceFault}
@@ -29,8 +29,8 @@ GivesFirst count None (Err fault) = ⊤
 abbrev pub file_in : List (List ℕ × List ℕ) → List ℕ → Option (List ℕ)
 file_in files path = option_map (λ f. f.1) (find (λ f. bytes_eq f.0 path) files)
 
--- a file's bytes, or of a file that is longer than may be, so many that it shows
+-- the first bytes of a file, one more than it may have at most: so all of them, or so many that it shows to be too long
 abbrev pub IsWholeUpTo : ℕ → Option (List ℕ) → List ℕ → Type 0
 IsWholeUpTo longest None bytes = ⊥
 IsWholeUpTo longest (Some held) bytes =
-    (length held ≤ longest → bytes ≡ held) × (longest < length held → longest < length bytes)
+    bytes ≡ take (longest + 1) held
