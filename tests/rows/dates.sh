@@ -18,11 +18,6 @@ printf "TZif2${block}TZif2$block"'\n%s\n' "$europe" > "$zone_file"
 no_zone_file=$work/no_zone
 printf TZif > "$no_zone_file"
 
-# Writes a graph without tasks that has this schedule, as JSON spells it, and this zone.
-scheduled() {
-    echo "{\"dag_id\":\"d\",\"schedule\":\"$1\",\"zone\":\"$2\",\"tasks\":[]}" > "$graph"
-}
-
 # The words of a row, at each bar.
 words_of() {
     IFS='|' read -ra words <<< "$1"
@@ -35,7 +30,10 @@ lines() {
     [[ $# -eq 0 ]] || printf '%s\n' "$@"
 }
 
-# A schedule, its zone, from, to, and the data intervals that start then.
+# A schedule, its zone, from, to, and the data intervals that start then. By the zone file 02:30 isn't there on a day in spring, and is
+# 03:30; on one in autumn it is there twice, and is the earlier one. Day and weekday: either suffices where both are restricted, and `*/1` is
+# no `*`. Sunday is 0 and 7. A step counts from the least number of its item: 5, 25 and 45. Both ends of a range count, and so do the ends
+# of the years.
 while IFS= read -r row; do
     words_of "$row"
     scheduled "${words[0]}" "${words[1]}"
@@ -97,12 +95,12 @@ done <<ROWS
 ROWS
 
 # What starts beside the days doesn't count.
-scheduled '* * * * *' UTC
+scheduled '* * * * *'
 is_same 'minutes of two days' 2880 "$("$program" list "$graph" --on 2024-01-01..2024-01-02 | wc -l)"
 
 while IFS= read -r row; do
     words_of "$row"
-    scheduled "${words[0]}" UTC
+    scheduled "${words[0]}"
     tells 2 "refused ${words[2]}" list "$graph" --on "${words[1]}"
 done <<'ROWS'
 @daily | 1969-12-31 | 25 outside years
@@ -146,7 +144,7 @@ done
 # Whether the schedule has this minute of UTC.
 while IFS= read -r row; do
     words_of "$row"
-    scheduled "${words[0]}" UTC
+    scheduled "${words[0]}"
     starts=0
     [[ $("$program" list "$graph" --from "${words[1]}" --to "${words[1]}") != "${words[1]} "* ]] || starts=1
     is_same "whether $row" "${words[2]}" "$starts"
@@ -170,17 +168,17 @@ done <<'ROWS'
 ROWS
 
 for schedule in '0 0 30 2 *' '0 0 31 2,4,6,9,11 *'; do
-    scheduled "$schedule" UTC
+    scheduled "$schedule"
     tells 2 'refused 12 never fires' check "$graph"
 done
 for schedule in '0 0 29 2 *' '0 0 30 2 sun' '59 23 31 12 *' '* * * * *'; do
-    scheduled "$schedule" UTC
+    scheduled "$schedule"
     answers 0 check "$graph" <<< 'ok 0 tasks, 0 edges'
 done
 for schedule in '' '60 * * * *' '* 24 * * *' '* * 0 * *' '* * 32 * *' '* * * 0 *' '* * * 13 *' '* * * * 8' '0 0 * * sat-sun' '5-4 * * * *' \
     '*/0 * * * *' '*/60 * * * *' '5/15 * * * *' '* * * *' '* * * * * *' '1,,2 * * * *' '001 * * * *' '-1 * * * *' '* * * mon *' '* * * * jan' \
     '*/mon * * * *' @once @Daily ' @daily' @midnight; do
-    scheduled "$schedule" UTC
+    scheduled "$schedule"
     tells 2 'refused 11 bad cron' check "$graph"
 done
 
@@ -195,7 +193,7 @@ done
 scheduled @daily file
 answers 0 check "$graph" --zone-file "$zone_file" <<< 'ok 0 tasks, 0 edges'
 tells 2 'refused 13 bad zone' check "$graph" --zone-file "$no_zone_file"
-scheduled @daily UTC
+scheduled @daily
 answers 0 check "$graph" --zone-file "$no_zone_file" <<< 'ok 0 tasks, 0 edges'
 
 # One that has more than 1,048,576 bytes is bad.

@@ -6,11 +6,6 @@ set -euo pipefail
 
 source "$(dirname "$(readlink -f "${BASH_SOURCE[0]}")")/../shared/compare.sh"
 
-# Writes a graph without tasks that has this schedule, and this zone.
-scheduled() {
-    echo "{\"dag_id\":\"d\",\"schedule\":\"$1\",\"zone\":\"${2:-UTC}\",\"tasks\":[]}" > "$graph"
-}
-
 # The graph that was written is refused, by each command alike.
 is_refused() {
     echo '[]' > "$table"

@@ -34,6 +34,11 @@ tells() {
     ends "$status" "$@"
 }
 
+# Writes a graph without tasks that has this schedule, as JSON spells it, and this zone, or UTC.
+scheduled() {
+    echo "{\"dag_id\":\"d\",\"schedule\":\"$1\",\"zone\":\"${2-UTC}\",\"tasks\":[]}" > "$graph"
+}
+
 # Writes a graph of these tasks.
 tasks() {
     echo "{\"dag_id\":\"d\",\"schedule\":\"@daily\",\"tasks\":[$1]}" > "$graph"

@@ -14,6 +14,7 @@ use Rattle.bf_report.specs.declared.report.RunReport.{RunReport}
 use Rattle.bf_report.specs.declared.report.Report.{Report}
 use Rattle.bf_dependents.specs.declared.fault.ClearFault.{ClearFault}
 
+-- the instances that are told of a task
 abbrev pub instances_told : TaskReport → List InstanceReport
 instances_told (TaskReport.Ran instance) = instance ∷ []
 instances_told (TaskReport.Mapped instances) = instances
@@ -30,7 +31,7 @@ HasPulls dag report task =
     All (λ (instance : InstanceReport). map (λ pull. Some pull.task) instance.pulls
     ≡ ids_pulled dag task) (instances_told report)
 
--- the report is one of the plan's dag over these data intervals
+-- the report is one of the plan's dag over these data intervals; one without runs tells no ids
 pub record MatchesPlan (dag : Dag) (intervals : List Interval) (report : Report) : Type 0 where
   pub dag_id : report.dag_id ≡ dag.id
   pub ids : (intervals ≡ []) ⊎ (report.tasks ≡ map (λ (task : Task). task.id) dag.tasks)
