@@ -12,7 +12,7 @@ use bf_value::{OutOfMemory, Text};
 use std::alloc::Global;
 
 /// Adds an entry for each of an instance's `tries` but the last, since all of these failed.
-fn push_retried(
+fn push_failed_tries(
     alloc: Global,
     text: &mut String,
     name: &InstanceName<'_>,
@@ -39,8 +39,8 @@ fn push_instance(
         ++ entry_lines (instance_entries name.now.run.now name.now.task.now
         (number_of name.now.index) instance.now.result)) }
 {
-    let ended = instance.result(alloc)?;
-    push_retried(alloc, text, name, ended.tries)?;
+    let ended = instance.result()?;
+    push_failed_tries(alloc, text, name, ended.tries)?;
     push_outcome_entry(alloc, text, name, ended.tries, &ended.outcome)
 }
 

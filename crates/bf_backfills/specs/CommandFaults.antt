@@ -105,7 +105,7 @@ IsRecordedRunFault logs files journals graph asked range fault =
     IsFaultOfFiles files (graph_paths graph)
     (OfFiles files graph (λ bytes zone. ListFault bytes zone range fault)) fault
 
--- where no journal is named it is the first of the files, the graph, the range and what stops the backfill
+-- the fault is the first of the files, the graph, the range and what stops the backfill; with a journal, that of the recorded run
 abbrev pub IsRunFaultBy : LaunchingOf → Losing → Files → Files → GraphAsked → Option JournalAsked
     → RunRange → CommandFault → Type 0
 IsRunFaultBy launching may_lose files journals graph None range fault =
@@ -124,20 +124,20 @@ IsRunFault may_lose files machine asked fault = (range : RunRange) × MeansRange
     × IsRunFaultBy (launching_asked_of asked.launcher asked.logs) may_lose files machine.journals
     asked.graph asked.journal range fault
 
--- the files but for the report can be read, this is to be cleared, and so it is with what they and the report hold
+-- the files but for the report can be read, this is to be cleared, and P holds of what they and the report hold
 abbrev pub OfReadClearFiles : Files → ClearInput
     → (ToClear → List ℕ → Option (List ℕ) → Option (List ℕ) → List ℕ → Type 0) → Type 0
 OfReadClearFiles files input P =
     AreReadable files (first_paths input) × IsReadable (files input.report)
     × (what : ToClear) × MeansCleared files input.cleared what × OfClearFiles files input (P what)
 
--- they can be read, and this is the first fault of the graph, the table and the range
+-- the files but for the report can be read, and this is the first fault of the graph, the table and the range
 abbrev pub IsFaultBeforeReport : Files → ClearInput → RunRange → CommandFault → Type 0
 IsFaultBeforeReport files input range fault = AreReadable files (first_paths input)
     × OfFilesAndNamedTable files input.graph input.table
     (λ graph zone table. IsFaultBefore graph zone table range fault)
 
--- they can be read, and the graph, the table and the range have no fault, but the report of this path can't be read
+-- the files but for the report can be read, and the graph, the table and the range have no fault, but the report of this path can't be read
 abbrev pub LacksReport : Files → ClearInput → RunRange → List ℕ → Type 0
 LacksReport files input range path =
     AreReadable files (first_paths input) × (path ≡ input.report) × IsUntold (files path)
@@ -173,7 +173,7 @@ IsFaultOfClearing files input range (CannotWrite n) =
 IsFaultOfClearing files input range OutOfMemory = Unit {0}
 IsFaultOfClearing files input range fault = ⊥
 
--- so it is; or there is none of these, and it is what stops the backfill
+-- the fault of clearing; or there is none, and it is what stops the backfill
 abbrev pub IsFaultOfClear : Losing → Files → ClearAsked → RunRange → CommandFault → Type 0
 IsFaultOfClear may_lose files asked range (Stopped stop) =
     OfReadClearFiles files (clear_input asked) (λ what graph zone table report.

@@ -103,7 +103,7 @@ MeansStarts (starting.Between from to) (Between range) =
 MeansStarts (starting.On text) (On days) = SpellDays (string_bytes text) days
 MeansStarts asked starts = ⊥
 
--- so they do, and whether there have to be some
+-- the texts mean this range: where data intervals start, and whether there have to be some
 abbrev pub MeansRange : RangeAsked → RunRange → Type 0
 MeansRange asked range = MeansStarts asked.starts range.starts × (range.some ≡ asked.some)
 
@@ -113,7 +113,7 @@ MeansSeed asked seed =
     (seed.task ≡ string_bytes asked.task) × Means (string_bytes asked.run) seed.run
     × (seed.index ≡ asked.index)
 
--- one by one
+-- the texts mean these seeds, one by one
 abbrev pub MeanSeeds : List SeedAsked → List Seed → Type 0
 MeanSeeds [] [] = Unit {0}
 MeanSeeds (asked ∷ more) (seed ∷ seeds) = MeansSeed asked seed × MeanSeeds more seeds
@@ -228,7 +228,7 @@ clear_input asked =
       cleared = asked.cleared;
     }
 
--- with `--plan`, which takes no table
+-- what `clear --plan` is given to read, without a table
 abbrev pub plan_input : ClearPlanAsked → ClearInput
 plan_input asked =
     record {
@@ -247,7 +247,7 @@ seeds_named _ = None
 abbrev pub first_paths : ClearInput → List (List ℕ)
 first_paths input = clear_paths input.graph input.table (seeds_named input.cleared)
 
--- so it is with whatever the graph file, the zone file, the table where one is named, and the report are told to hold
+-- P holds of whatever the graph file, the zone file, the table where one is named, and the report are told to hold
 abbrev pub OfClearFiles : Files → ClearInput
     → (List ℕ → Option (List ℕ) → Option (List ℕ) → List ℕ → Type 0) → Type 0
 OfClearFiles files input P = OfFilesAndNamedTable files input.graph input.table (λ graph zone table.

@@ -22,7 +22,7 @@ ghost use Rattle.bf_backfills.specs.inner.Named.{IsReadFor, MeansNamed, path_of}
 
 use crate::journaled::record_clearing;
 use crate::launching::{launching_asked, path_named, refuse_unstartable_launcher, tells_asked};
-use crate::named::{Meant, UnreadToClear, meaning_of, read_to_clear};
+use crate::named::{ToClearInRange, UnreadToClear, meaning_of, read_to_clear};
 use bf_command_fault::{CommandFault, Status};
 use bf_command_line::{ClearAsked, GraphAsked, JournalAsked};
 use bf_commands::{
@@ -56,7 +56,7 @@ fn check_asked<L: Launchers>(
     launchers: &L,
     alloc: Global,
     asked: &ClearAsked,
-) -> Result<Meant, CommandFault>
+) -> Result<ToClearInRange, CommandFault>
     ensures range { IfOk result (λ meant. MeansRange asked.now.range meant.range) }
     ensures named { IfOk result (λ meant. MeansNamed asked.now.cleared meant.named) }
     ensures launchable { OnOk result (IsLaunchable (L.startable launchers.now)
@@ -129,7 +129,7 @@ fn read_and_prepare<S: Source>(
     alloc: Global,
     graph: GraphAsked,
     table: Option<String>,
-    meant: Meant,
+    meant: ToClearInRange,
     files: &mut S,
 ) -> Result<PreparedToClear, CommandFault>
     ensures said { IfOk result (λ p. IsOfBytes (S.file files.old) graph
@@ -173,7 +173,7 @@ pub(crate) fn read_with_report<S: Source>(
     alloc: Global,
     graph: GraphAsked,
     table: Option<String>,
-    meant: Meant,
+    meant: ToClearInRange,
     report: String,
     files: &mut S,
 ) -> Result<ReadyToClear, CommandFault>
@@ -281,10 +281,11 @@ where
     }
 }
 
-/// Does `clear`, or `run --keep` and `dry --keep`, which clear nothing: makes the tries that aren't kept and writes the
-/// new report. `Err` where a moment, the launcher, a file, or what to clear is refused, checked in this order; also
-/// where the backfill stops early, `out` fails, or memory runs out. At `Err`, `out` got nothing but the bytes that
-/// `CannotWrite` counts.
+/// Does `clear`, or `run --keep` and `dry --keep`, which clear nothing: makes the tries that aren't kept, records them
+/// where a journal is named, and writes the new report. `Err` where a moment is bad, the launcher can't be started, a
+/// file other than the report can't be read, or the graph, the table, the range, the report, what to clear or the
+/// journal is refused, checked in this order; also where the backfill stops early, `out` fails, or memory runs out. At
+/// `Err`, `out` got nothing but the bytes that `CannotWrite` counts.
 pub fn answer_clear<
     RT: Starter + Screen + Threads + Wait + Clock + Sync,
     J: Journals + Launchers,

@@ -20,8 +20,9 @@ use std::thread::Threads;
 use std::time::Clock;
 
 /// Does `dry`: runs a graph over a range with a table's answers, and writes the report. `Err` where a moment is bad, a
-/// file can't be read, or what a file holds is refused, checked in this order; also where a thread can't be started,
-/// `out` fails, or memory runs out. At `Err`, `out` got nothing but the bytes that `CannotWrite` counts.
+/// file can't be read, or the graph, the table or the range is refused, checked in this order; also where a thread
+/// can't be started, `out` fails, or memory runs out. At `Err`, `out` got nothing but the bytes that `CannotWrite`
+/// counts.
 pub fn answer_dry<RT: Starter + Screen + Threads + Wait + Clock + Sync, S: Source, W: Write>(
     rt: &RT,
     alloc: Global,

@@ -1,8 +1,9 @@
 //! The commands over graphs, from the forms of their lines to the texts that they print: `check`, `list`, `single`, `dry`, `run` and
 //! `clear`.
 //!
-//! Each looks at its moments, reads the files that it is given in their order, and only then looks at what they hold. What a command makes
-//! of their bytes is in `bf_commands`.
+//! Each looks at its moments, reads the files that it is given in their order, and only then looks at what they hold; `clear` reads its
+//! report, and `run` and `clear` open their journal, only once the graph, the table and the range are found good. What a command makes of
+//! their bytes is in `bf_commands`.
 #![tactic(auto)]
 
 mod check;

@@ -16,8 +16,8 @@ use bf_planning::write_list;
 use std::alloc::Global;
 
 /// Does `list`: writes the data intervals of the graph's schedule that start in the range. `Err` where a moment is bad,
-/// a file can't be read, or what a file holds is refused, checked in this order; also where `out` fails or memory runs
-/// out. At `Err`, `out` got nothing but the bytes that `CannotWrite` counts.
+/// a file can't be read, or the graph or the range is refused, checked in this order; also where `out` fails or memory
+/// runs out. At `Err`, `out` got nothing but the bytes that `CannotWrite` counts.
 pub fn answer_list<S: Source, W: Write>(
     alloc: Global,
     asked: ListAsked,

@@ -88,7 +88,7 @@ fn to_clear_asked(alloc: Global, asked: &ClearedAsked) -> Result<UnreadToClear, 
 
 /// What a line's texts mean: a range, and what to clear in it.
 #[derive(Drop)]
-pub(crate) struct Meant {
+pub(crate) struct ToClearInRange {
     pub(crate) range: RunRange,
     pub(crate) named: UnreadToClear,
 }
@@ -99,14 +99,14 @@ pub(crate) fn meaning_of(
     alloc: Global,
     range: &RangeAsked,
     cleared: &ClearedAsked,
-) -> Result<Meant, CommandFault>
+) -> Result<ToClearInRange, CommandFault>
     ensures range { IfOk result (λ meant. MeansRange range.now meant.range) }
     ensures named { IfOk result (λ meant. MeansNamed cleared.now meant.named) }
     ensures fault { IfErr result (IsFaultOfMeaning range.now cleared.now) }
 {
     let range = range_of(range)?;
     let named = to_clear_asked(alloc, cleared)?;
-    Ok(Meant { range, named })
+    Ok(ToClearInRange { range, named })
 }
 
 /// Reads the seeds file, where one is named, and opens no other. `Err` where it can't be read, or at want of memory.

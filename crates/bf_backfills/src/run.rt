@@ -21,9 +21,10 @@ use std::sync::Wait;
 use std::thread::Threads;
 use std::time::Clock;
 
-/// Does `run`: starts the programs of the tasks, and writes the report. `Err` where a moment is bad, the launcher can't
-/// be started, a file can't be read, or what a file holds is refused, checked in this order; also where the backfill
-/// stops early, `out` fails, or memory runs out. At `Err`, `out` got nothing but the bytes that `CannotWrite` counts.
+/// Does `run`: starts the programs of the tasks, records their tries where a journal is named, and writes the report.
+/// `Err` where a moment is bad, the launcher can't be started, a file can't be read, or the graph, the range or the
+/// journal is refused, checked in this order; also where the backfill stops early, `out` fails, or memory runs out. At
+/// `Err`, `out` got nothing but the bytes that `CannotWrite` counts.
 pub fn answer_run<
     RT: Starter + Screen + Threads + Wait + Clock + Sync,
     J: Journals + Launchers,

@@ -19,8 +19,9 @@ use std::thread::Threads;
 use std::time::Clock;
 
 /// Does `single`: runs a graph once with a table's answers, and writes the report. `Err` where the moment is bad, a
-/// file can't be read, or what a file holds is refused, checked in this order; also where `out` fails or memory runs
-/// out. At `Err`, `out` got nothing but the bytes that `CannotWrite` counts.
+/// file can't be read, or the graph, the table, or a moment outside of the years 1970 to 2199 is refused, checked in
+/// this order; also where `out` fails or memory runs out. At `Err`, `out` got nothing but the bytes that `CannotWrite`
+/// counts.
 pub fn answer_single<RT: Starter + Screen + Threads + Wait + Clock + Sync, S: Source, W: Write>(
     rt: &RT,
     alloc: Global,

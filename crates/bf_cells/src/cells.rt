@@ -13,9 +13,9 @@ ghost use Rattle.bf_report.specs.Report.{run_state_word_of};
 use bf_moment::Moment;
 use bf_plan::Plan;
 use bf_reason::{Settled, ended_letter, letter_at, settled_tasks};
-use bf_report::{Report, RunReport, TaskReport};
+use bf_report::{Report, RunReport, TaskReport, run_state_word};
 use bf_value::OutOfMemory;
-use bf_xcom::{RunState, TaskResult};
+use bf_xcom::TaskResult;
 use std::alloc::Global;
 
 /// Adds the letter of each task of run number `run`, from 0, which tells its state and why; a digit where the graph
@@ -73,16 +73,6 @@ fn push_instances_words(text: &mut String, settled: &[Settled<'_>]) -> Result<()
         push_instances_word(text, task)?;
     }
     Ok(())
-}
-
-/// The word for the state of a run, `success` or `failed`.
-fn run_state_word(state: RunState) -> &'static str
-    ensures { result.now ≡ run_state_word_of state }
-{
-    match state {
-        RunState::Success => "success",
-        RunState::Failed => "failed",
-    }
 }
 
 /// Adds the start, the end and the state of a run, each followed by a space.

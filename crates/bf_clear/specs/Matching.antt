@@ -49,7 +49,7 @@ IsRefusedFor Matches _ = ⊥
 
 -- ---- as a test
 
--- it is the id of the task, where there is one
+-- there is a task, and this is its id
 abbrev pub has_id_in : Option Task → List ℕ → Bool
 has_id_in None id = false
 has_id_in (Some task) id = bytes_eq id task.id
@@ -70,7 +70,7 @@ has_pulls_in dag task instance =
     (length instance.pulls == length task.pulls)
     && list_all (λ pair. is_pull_in dag pair.0 pair.1) (zip instance.pulls task.pulls)
 
--- so it is in version 2 with each instance of the task
+-- in version 2 each instance of the task has the task's pulls
 abbrev pub is_task_in : Version → Dag → TaskReport → Task → Bool
 is_task_in Version.Two dag (TaskReport.Ran instance) task = has_pulls_in dag task instance
 is_task_in Version.Two dag (TaskReport.Mapped instances) task =
@@ -82,7 +82,7 @@ are_tasks_in version dag reports =
     (length reports == length dag.tasks)
     && list_all (λ pair. is_task_in version dag pair.0 pair.1) (zip reports dag.tasks)
 
--- they start at one moment, and end at one
+-- the two data intervals have one start and one end
 abbrev pub is_same_interval_in : Interval → Interval → Bool
 is_same_interval_in one other =
     int_eq one.start.nanosecond other.start.nanosecond

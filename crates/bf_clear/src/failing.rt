@@ -18,15 +18,15 @@ use std::alloc::Global;
 const MOST_INSTANCES: usize = 2_147_483_648;
 
 /// Whether an instance failed: its last try did.
-fn has_failed(alloc: Global, instance: &InstanceReport) -> Result<bool, OutOfMemory>
+fn has_failed(instance: &InstanceReport) -> Result<bool, OutOfMemory>
     ensures { IfOk result (λ failed. failed ≡ is_failed instance.now.result.outcome) }
 {
-    let ended = instance.result(alloc)?;
+    let ended = instance.result()?;
     Ok(matches!(&ended.outcome, Outcome::Failed))
 }
 
 /// The name of the first try of an instance.
-fn first_try(run: u32, task: u32, index: i32) -> JobName
+fn name_of_first_try(run: u32, task: u32, index: i32) -> JobName
     ensures { result ≡ record { run = run; task = task; index = index; attempt = 1 } }
 {
     JobName {
@@ -39,7 +39,7 @@ fn first_try(run: u32, task: u32, index: i32) -> JobName
 
 /// Adds the place of the instance that `name` is a try of where the report says that it failed; adds nothing where it
 /// didn't, or the report lacks it.
-fn add_failed(
+fn add_if_failed(
     alloc: Global,
     report: &Report,
     name: JobName,
@@ -51,7 +51,7 @@ fn add_failed(
     let Some(instance) = instance_at(report, name) else {
         return Ok(());
     };
-    if has_failed(alloc, instance)? {
+    if has_failed(instance)? {
         let index = Some(name.index);
         found.push(Place {
             run: name.run,
@@ -86,9 +86,14 @@ fn add_failed_of_task(
     ensures { OnOk result (found.new.items ≡ found.old.items
         ++ failed_of_task_in report.now run task) }
 {
-    add_failed(alloc, report, first_try(run, task, -1), found)?;
+    add_if_failed(alloc, report, name_of_first_try(run, task, -1), found)?;
     for place in 0..instance_count_at(report, run, task) {
-        add_failed(alloc, report, first_try(run, task, place as i32), found)?;
+        add_if_failed(
+            alloc,
+            report,
+            name_of_first_try(run, task, place as i32),
+            found,
+        )?;
     }
     Ok(())
 }

@@ -18,7 +18,7 @@ fn results_of(
 {
     let mut results = Vec::with_capacity(alloc, instances.len())?;
     for instance in instances {
-        results.push(instance.result(alloc)?)?;
+        results.push(instance.result()?)?;
     }
     Ok(Sequence::from_vec(results))
 }
@@ -33,7 +33,7 @@ pub fn value_of(alloc: Global, task: &TaskReport) -> Result<TaskValue, OutOfMemo
         TaskReport::UpstreamFailed => Ok(TaskValue::UpstreamFailed),
         TaskReport::Ran(instance) => {
             let mut results = Sequence::new(alloc);
-            results.push(instance.result(alloc)?)?;
+            results.push(instance.result()?)?;
             Ok(TaskValue::Ran(results))
         }
         TaskReport::Mapped(instances) => {

@@ -52,7 +52,7 @@ pub fn own_reports_match()
         IsDated dag intervals ledger report → MatchesPlan dag intervals report }
 {}
 
-/// A law: a report brought into the shape of other data intervals, by `align`, still tells exactly the entries of its
+/// A law: a report brought into the shape of other data intervals, as `clear_places_by_ids` does, still tells exactly the entries of its
 /// own backfill's ledger, in each run over one of that backfill's data intervals.
 pub fn kept_reports_tell_ledgers()
     ensures { (dag : Dag) → IsNamed dag → (before intervals : List Interval)

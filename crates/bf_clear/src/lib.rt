@@ -22,7 +22,7 @@ pub use clearing::{clear_places, clear_places_by_ids};
 pub use failing::failed_places;
 pub use given::value_of;
 pub use laws::{
-    kept_reports_tell_ledgers, own_reports_match, reports_tell_ledgers,
+    kept_reports_tell_ledgers, own_reports_match, reports_match_by_equations, reports_tell_ledgers,
     resumed_backfills_keep_the_rest,
 };
 pub use looking::task_at;

@@ -100,6 +100,6 @@ pub(crate) fn answer_of_instance(
     if !was_given {
         return Ok(None);
     }
-    let ended = instance.result(alloc)?;
+    let ended = instance.result()?;
     answer_of_try(alloc, plan, name.task, &ended, name.attempt)
 }

@@ -157,7 +157,7 @@ IsUnknown dag intervals what (BadSeeds fault) = IsBadFile dag intervals what fau
 IsUnknown dag intervals what OutOfMemory = Unit {0}
 IsUnknown dag intervals what fault = ⊥
 
--- it is known, and the report, which doesn't match, is refused for this
+-- what is to be cleared is known, and the report, which doesn't match, is refused for this
 abbrev pub IsMismatch : Dag → List Interval → Report → ToClear → ClearFault → Type 0
 IsMismatch dag intervals was what fault =
     (places : List Place) × AreCleared dag intervals was what places
@@ -169,7 +169,7 @@ IsUncleared dag intervals was what (NotCleared fault) =
     IsUnknownSeed dag intervals what fault ⊎ IsMismatch dag intervals was what fault
 IsUncleared dag intervals was what fault = IsUnknown dag intervals what fault
 
--- they have none, the bytes say a report, and nothing is cleared in it for this
+-- the graph, the table and the range have no fault, the bytes say a report, and nothing is cleared in it for this
 pub record IsUnclearable (graph : List ℕ) (file table : Option (List ℕ)) (report : List ℕ)
     (range : RunRange) (what : ToClear) (fault : CommandFault) : Type 0 where
   pub ready : IsReady graph file table range
@@ -199,7 +199,7 @@ ClearingFault alone launching may_lose answers dag intervals was what (Stopped s
     × IsStopFrom alone kept launching may_lose answers dag intervals stop
 ClearingFault alone launching may_lose answers dag intervals was what fault = IsWanting fault
 
--- they have none, the bytes say a report, this is cleared in it, and the backfill that goes on from it stops
+-- the graph, the table and the range have no fault, the bytes say a report, this is cleared in it, and the backfill that goes on from it stops
 pub record StopsClearing (alone : Bool) (launching : LaunchingOf) (may_lose : Losing)
     (graph : List ℕ) (file table : Option (List ℕ)) (report : List ℕ) (range : RunRange)
     (what : ToClear) (stop : StopFault) : Type 0 where

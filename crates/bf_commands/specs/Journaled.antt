@@ -173,7 +173,7 @@ pub record IsClearable (graph : List ℕ) (file table : Option (List ℕ)) (repo
   pub cleared : Heading
   pub cleared_is : IsClearedBy ready.dag ready.found was what kept cleared
 
--- so it is, and the backfill that goes on from a journal of these bytes, and else from that report, has this fault
+-- this is cleared in the report that the bytes say, and the backfill that goes on from a journal of these bytes, and else from that report, has this fault
 pub record GoesWrongClearing (most : Option ℕ) (logs : Option (List ℕ)) (graph : List ℕ)
     (file table : Option (List ℕ)) (report : List ℕ) (retry : Bool) (held : List ℕ)
     (range : RunRange) (what : ToClear) (fault : CommandFault) : Type 0 where

@@ -47,7 +47,7 @@ is_same_task _ _ = false
 abbrev pub begins_run_in : List Place → ℕ → Bool
 begins_run_in places i = not (is_same_run (place_before_in places i) (slice_get places i))
 
--- and of its task there
+-- the place is the first of its task in a run, where those of one stand together
 abbrev pub begins_task_in : List Place → ℕ → Bool
 begins_task_in places i = not (is_same_task (place_before_in places i) (slice_get places i))
 

@@ -42,7 +42,7 @@ pub record IsReportBy (may_answer : JobName → Given → Raw
   pub graded : AreGraded may_answer dag (finite.get ledger)
   pub reported : IsReportOf dag intervals (finite.get ledger) text success
 
--- so it is where the kept tries stand as they are kept, and every other has the grade of an answer that may come; so where those
+-- the text is that of the report over a ledger in which the kept tries stand as they are kept, and every other has the grade of an answer that may come; so where those
 -- that are kept have such a grade, all have
 pub record IsReportFrom (kept : Ledger) (may_answer : JobName → Given → Raw
     → Type 0) (dag : Dag) (intervals : List Interval) (text : List ℕ)

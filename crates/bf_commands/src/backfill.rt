@@ -99,6 +99,7 @@ fn resume_over_table<'p, RT: Screen + Threads + Wait + Clock + Sync, K: KeptTrie
         alloc: crew.alloc,
         kept,
         runner: &runner,
+        at_once: true,
     };
     if crew.is_single_threaded() {
         let _some = crew.workers.count();
@@ -133,6 +134,7 @@ fn resume_by_programs<
         alloc: crew.alloc,
         kept,
         runner: &programs,
+        at_once: false,
     };
     let ended = crew.resume_by_workers(plan, runs, &keeping, MachineClock::new(crew.rt));
     let log_faults = programs.runner().log_faults();
@@ -174,7 +176,7 @@ fn resume_backfill<'p, RT: Starter + Screen + Threads + Wait + Clock + Sync, K: 
 
 /// Runs a backfill to its end and writes its report; true where every run succeeded. Tries in `kept` end as they did;
 /// `answers` answers the others, or programs make them where it is None. `Err` where the backfill stops early, `out`
-/// fails, or memory runs out.
+/// fails, or memory runs out. Tells progress, failed tries and incomplete logs on the screen as the crew does.
 pub(crate) fn write_backfill<
     RT: Starter + Screen + Threads + Wait + Clock + Sync,
     K: KeptTries + Sync,
@@ -205,5 +207,5 @@ pub(crate) fn write_backfill<
 {
     let ended = resume_backfill(crew, plan, runs, kept, answers)?;
     let _end = ended.state();
-    write_ended(crew.alloc, runs, &ended, out)
+    write_ended(crew.alloc, runs, ended, out)
 }

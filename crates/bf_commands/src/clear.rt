@@ -117,7 +117,7 @@ pub fn clear_in_report<'a>(
 /// Clears `what` in a report with all that follows from it, makes these tries, and writes the new report; true where
 /// every run succeeded. `answers` answers them; None starts programs. `Err` where report or `what` is refused, the
 /// backfill stops early, `out` fails, or memory runs out.
-fn write_report_after<RT: Starter + Screen + Threads + Wait + Clock + Sync, W: Write>(
+fn clear_and_write_report<RT: Starter + Screen + Threads + Wait + Clock + Sync, W: Write>(
     crew: &Crew<'_, RT>,
     dated: &DatedPlan,
     answers: Option<Table>,
@@ -175,14 +175,14 @@ pub fn write_resumed_report<RT: Starter + Screen + Threads + Wait + Clock + Sync
         (W.written out.old) (W.written out.new)) }
 {
     let Prepared { dated, answers } = prepared;
-    let written = write_report_after(crew, &dated, answers, report, &what, out);
+    let written = clear_and_write_report(crew, &dated, answers, report, &what, out);
     drop(dated);
     written
 }
 
-/// Takes each try from the journal or else from what the report keeps, makes and records the others, and writes the new
-/// report. `answers` answers them; None starts programs. `report` is `Err` where the journal is refused, the backfill
-/// stops early, `out` fails, or memory runs out.
+/// Mends the journal's file and tells on the screen what it held, takes each try from it or else from what the report
+/// keeps, makes and records the others, and writes the new report. `answers` answers them; None starts programs.
+/// `report` is `Err` where the journal is refused, the backfill stops early, `out` fails, or memory runs out.
 pub fn record_resumed_report<RT, D, W>(
     crew: &Crew<'_, RT>,
     clearing: &Clearing<'_>,

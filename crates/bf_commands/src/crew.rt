@@ -1,5 +1,5 @@
 //! What runs the tries of a backfill.
-ghost use Rattle.std.specs.Prelude.{◌≡◌, IfOk, IfErr, length};
+ghost use Rattle.std.specs.Prelude.{◌≡◌, IfNone, IfOk, IfErr, None, false, length};
 ghost use Rattle.bf_exec.specs.Faults.{MayFail};
 ghost use Rattle.bf_kept.specs.Kept.{AreFit, MayGiveUpAnew};
 ghost use Rattle.bf_commands.specs.OverTable.{is_single_threaded_in};
@@ -50,6 +50,8 @@ impl<'m, RT> Crew<'m, RT> {
         ensures machine { result.rt ≡ rt.entry }
         ensures workers { result.workers ≡ workers }
         ensures progress { result.progress ≡ progress }
+        ensures silent { (result.tells.progress ≡ false) × (result.tells.failures ≡ false) }
+        ensures bare { (result.launching.launcher ≡ None) × (result.launching.logs ≡ None) }
     {
         Crew {
             rt,
@@ -74,6 +76,7 @@ impl<'m, RT> Crew<'m, RT> {
         ensures workers { result.workers ≡ self.entry.workers }
         ensures progress { result.progress ≡ self.entry.progress }
         ensures launching { result.launching ≡ launching.entry }
+        ensures tells { result.tells ≡ tells }
     {
         Crew {
             rt: self.rt,
@@ -94,6 +97,7 @@ impl<'m, RT> Crew<'m, RT> {
         ensures workers { result.workers ≡ self.now.workers }
         ensures progress { result.progress ≡ self.now.progress }
         ensures launching { result.launching ≡ record self.now.launching { clocks = clocks.entry } }
+        ensures tells { result.tells ≡ self.now.tells }
     {
         Crew {
             rt: self.rt,
@@ -122,6 +126,7 @@ impl<'m, RT> Crew<'m, RT> {
         ensures plan { result.plan ≡ plan.entry }
         ensures runs { result.runs ≡ runs.entry }
         ensures logs { result.logs ≡ self.now.launching.logs }
+        ensures unlogged { IfNone log_faults.entry (result.cannot_log ≡ false) }
     {
         StoppedBackfill {
             alloc: self.alloc,

@@ -97,6 +97,7 @@ where
         alloc: crew.alloc,
         kept,
         runner: &runner,
+        at_once: true,
     };
     crew.resume_recorded(plan, runs, &keeping, record, Jump::new(), None)
 }
@@ -133,6 +134,7 @@ where
         alloc: crew.alloc,
         kept,
         runner: &programs,
+        at_once: false,
     };
     let log_faults = programs.runner().log_faults();
     let clock = MachineClock::new(crew.rt);
@@ -180,19 +182,20 @@ where
 fn write_report_and_tell<RT: Screen, W: Write>(
     crew: &Crew<'_, RT>,
     runs: &Runs,
-    ended: &Ended<'_>,
+    ended: Ended<'_>,
     stop: Option<Stop>,
     out: &mut W,
 ) -> Result<bool, CommandFault>
-    requires { length runs.now ≡ ended.now.runs }
+    requires { length runs.now ≡ ended.runs }
     ensures ok { IfOk result (λ success. Sends
-        (λ text. IsReportOf ended.now.dag runs.now (entry_in ended.now.state.ledger) text success)
+        (λ text. IsReportOf ended.entry.dag runs.now (entry_in ended.entry.state.ledger) text
+        success)
         (W.written out.old) (W.written out.new)) }
     ensures wanting { IfErr result IsWanting }
     ensures left { IfErr result (Leaves (HasHalted (W.failures out.old) (W.failures out.new)
         (W.interruptions out.old) (W.interruptions out.new))
-        (λ text. (success : Bool) × IsReportOf ended.now.dag runs.now
-        (entry_in ended.now.state.ledger) text success)
+        (λ text. (success : Bool) × IsReportOf ended.entry.dag runs.now
+        (entry_in ended.entry.state.ledger) text success)
         (W.written out.old) (W.written out.new)) }
 {
     let success = write_ended(crew.alloc, runs, ended, out)?;
@@ -245,7 +248,7 @@ where
     match ended {
         Ok(ended) => {
             let _end = ended.state();
-            let report = write_report_and_tell(crew, runs, &ended, stop, out);
+            let report = write_report_and_tell(crew, runs, ended, stop, out);
             Recorded { report, device }
         }
         Err(fault) => Recorded {
@@ -255,9 +258,9 @@ where
     }
 }
 
-/// Takes each try from the journal or else from `before`, makes and records the others, and writes the report.
-/// `answers` answers these; None starts programs. `report` is `Err` where the journal is refused, the backfill stops
-/// early, `out` fails, or memory runs out.
+/// Mends the journal's file and tells on the screen what it held, takes each try from it or else from `before`, makes
+/// and records the others, and writes the report. `answers` answers these; None starts programs. `report` is `Err`
+/// where the journal is refused, the backfill stops early, `out` fails, or memory runs out.
 pub(crate) fn record_backfill<RT, K, D, W>(
     crew: &Crew<'_, RT>,
     backfill: &Backfill<'_, K>,

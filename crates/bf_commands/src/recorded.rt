@@ -116,6 +116,7 @@ impl<'m, RT: Screen + Threads + Wait + Clock + Sync> Crew<'m, RT> {
             alloc: self.alloc,
             kept: keeping.kept,
             runner: &recording,
+            at_once: keeping.at_once,
         };
         let clock = StoppingClock {
             clock,

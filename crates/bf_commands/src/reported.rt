@@ -34,18 +34,19 @@ fn all_succeeded(runs: &[RunReport]) -> bool
 pub(crate) fn write_ended<W: Write>(
     alloc: Global,
     runs: &Runs,
-    ended: &Ended<'_>,
+    ended: Ended<'_>,
     out: &mut W,
 ) -> Result<bool, CommandFault>
-    requires { length runs.now ≡ ended.now.runs }
+    requires { length runs.now ≡ ended.runs }
     ensures ok { IfOk result (λ success. Sends
-        (λ text. IsReportOf ended.now.dag runs.now (entry_in ended.now.state.ledger) text success)
+        (λ text. IsReportOf ended.entry.dag runs.now (entry_in ended.entry.state.ledger) text
+        success)
         (W.written out.old) (W.written out.new)) }
     ensures wanting { IfErr result IsWanting }
     ensures left { IfErr result (Leaves (HasHalted (W.failures out.old) (W.failures out.new)
         (W.interruptions out.old) (W.interruptions out.new))
-        (λ text. (success : Bool) × IsReportOf ended.now.dag runs.now
-        (entry_in ended.now.state.ledger) text success)
+        (λ text. (success : Bool) × IsReportOf ended.entry.dag runs.now
+        (entry_in ended.entry.state.ledger) text success)
         (W.written out.old) (W.written out.new)) }
 {
     let _named = ended.plan().dag();

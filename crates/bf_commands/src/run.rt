@@ -54,9 +54,9 @@ pub fn run_programs<RT: Starter + Screen + Threads + Wait + Clock + Sync, W: Wri
     written
 }
 
-/// Takes tries from the journal, makes the others by starting programs, records each of these as it ends, and writes
-/// the report. `report` is `Err` where the journal is refused, the backfill stops early, `out` fails, or memory runs
-/// out.
+/// Mends the journal's file and tells on the screen what it held, takes tries from it, makes the others by starting
+/// programs, records each of these as it ends, and writes the report. `report` is `Err` where the journal is refused,
+/// the backfill stops early, `out` fails, or memory runs out.
 pub fn record_programs<RT, D, W>(
     crew: &Crew<'_, RT>,
     dated: &DatedPlan,

@@ -1,10 +1,10 @@
 //! What is told of a backfill that stopped.
-ghost use Rattle.std.specs.Prelude.{◌≡◌, IfSome, false, option_map};
+ghost use Rattle.std.specs.Prelude.{◌≡◌, ◌⊎◌, None, IfNone, IfSome, MatchOption, false, option_map, slice_get};
 ghost use Rattle.bf_core.specs.Answered.{MayFault};
 ghost use Rattle.bf_exec.specs.Faults.{MayFail};
-ghost use Rattle.bf_commands.specs.inner.Journaled.{IsToldAt, IsToldOfRecorded};
+ghost use Rattle.bf_commands.specs.inner.Journaled.{IsToldAt, IsToldOfRecorded, told_of_stop};
 ghost use Rattle.bf_commands.specs.inner.OverTable.{IsUnsent, IsWantingWorkers};
-ghost use Rattle.bf_commands.specs.inner.Programs.{IsGivenUp, IsToldOf};
+ghost use Rattle.bf_commands.specs.inner.Programs.{IsGivenUp, IsLost, IsToldOf, IsUnlogged};
 
 use bf_command_fault::{CommandFault, StopFault};
 use bf_core::BackfillFault;
@@ -54,14 +54,18 @@ pub(crate) struct StoppedBackfill<'a> {
 
 impl<'a> StoppedBackfill<'a> {
     /// Gives the fault that a try's log can't be made, with the path of its `.out` file, or want of memory. None where
-    /// no logs are kept, or the plan has no such task or run.
-    fn unlogged_fault(&self, name: JobName) -> Option<CommandFault>
-        ensures told { IfSome result (IsGivenUp (option_map (λ l. l.now) self.now.logs)
+    /// no logs are kept, or the plan has no such task, or there is no such run.
+    fn log_fault_of(&self, name: JobName) -> Option<CommandFault>
+        ensures told { IfSome result (IsUnlogged (option_map (λ l. l.now) self.now.logs)
             self.now.plan.now.dag self.now.runs.now name) }
-        ensures unsent { IfSome result IsUnsent }
+        ensures none { IfNone result ((self.now.logs ≡ None)
+            ⊎ ((slice_get self.now.plan.now.dag.tasks name.task ≡ None)
+            ⊎ (slice_get self.now.runs.now name.run ≡ None))) }
     {
-        let (Some(folder), Some(context)) = (self.logs, context_of(self.plan, self.runs, name))
-        else {
+        let Some(folder) = self.logs else {
+            return None;
+        };
+        let Some(context) = context_of(self.plan, self.runs, name) else {
             return None;
         };
         match log_path(self.alloc, folder, &context, ".out") {
@@ -73,6 +77,7 @@ impl<'a> StoppedBackfill<'a> {
     /// Gives the fault that a try's program can't be waited for, with its task's id, map index and number; or want of
     /// memory.
     fn lost_fault(&self, name: JobName) -> CommandFault
+        ensures lost { IsLost self.now.plan.now.dag name result }
         ensures told { IsGivenUp (option_map (λ l. l.now) self.now.logs) self.now.plan.now.dag
             self.now.runs.now name result }
         ensures unsent { IsUnsent result }
@@ -90,6 +95,7 @@ impl<'a> StoppedBackfill<'a> {
     /// Gives the fault of a try that its runner gave up: that its log can't be made, where some log couldn't be and
     /// these are kept, else that its program can't be waited for; or want of memory.
     fn given_up_fault(&self, name: JobName) -> CommandFault
+        ensures lost { self.now.cannot_log ≡ false → IsLost self.now.plan.now.dag name result }
         ensures told { IsGivenUp (option_map (λ l. l.now) self.now.logs) self.now.plan.now.dag
             self.now.runs.now name result }
         ensures unsent { IsUnsent result }
@@ -97,7 +103,7 @@ impl<'a> StoppedBackfill<'a> {
         if !self.cannot_log {
             return self.lost_fault(name);
         }
-        match self.unlogged_fault(name) {
+        match self.log_fault_of(name) {
             Some(fault) => fault,
             None => self.lost_fault(name),
         }
@@ -129,6 +135,10 @@ fn stop_fault_at_try(
     stop: Option<Stop>,
     most_failed: Option<u32>,
 ) -> CommandFault
+    ensures exact { MatchOption (told_of_stop stop most_failed)
+        (IsGivenUp (option_map (λ l. l.now) stopping.now.logs) stopping.now.plan.now.dag
+        stopping.now.runs.now name result)
+        (λ told. result ≡ told) }
     ensures told { IsToldAt most_failed (option_map (λ l. l.now) stopping.now.logs)
         stopping.now.plan.now.dag stopping.now.runs.now name result }
     ensures unsent { IsUnsent result }
@@ -139,7 +149,7 @@ fn stop_fault_at_try(
         (Some(Stop::EnoughFailed), Some(most)) => {
             CommandFault::Stopped(StopFault::EnoughFailed(most))
         }
-        _ => stopping.given_up_fault(name),
+        (Some(Stop::EnoughFailed), None) | (None, _) => stopping.given_up_fault(name),
     }
 }
 

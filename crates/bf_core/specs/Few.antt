@@ -1,4 +1,4 @@
--- No task has more instances than a source may give items, since what an instance came to is what its tries may come to.
+-- Bounds of a state: no task has more instances than a source may give items, and each finished one ended as its tries may.
 use Rattle.std.specs.Prelude.{◌≡◌, ℕ, ◌≤◌, true, length}
 use Rattle.std.specs.List.{AllByRecursion}
 use Rattle.bf_try.specs.Grades.{most_items}

@@ -117,8 +117,8 @@ impl Clock {
         (self.time + i64::from(delay)).min(LAST_MOMENT)
     }
 
-    /// Whether a moment, in seconds since 1970, is later than what the clock shows.
-    fn is_later(&self, moment: i64) -> bool
+    /// Whether the clock's time is before `moment`, in seconds since 1970.
+    fn is_before(&self, moment: i64) -> bool
         ensures { result ≡ int_lt self.now.time moment }
     {
         self.time < moment
@@ -134,7 +134,7 @@ impl Clock {
         ensures same { OnErr result (self.new ≡ self.old) }
     {
         let moment = self.moment_after(retry.delay);
-        if !retry.again || !self.is_later(moment) {
+        if !retry.again || !self.is_before(moment) {
             return Ok(());
         }
         self.moments.note(retry.next, moment)?;

@@ -15,7 +15,7 @@ use crate::upstreams::{is_settled, upstream_verdict};
 use bf_plan::{Dag, Plan};
 use bf_rule::Verdict;
 use bf_value::{OutOfMemory, Sequence};
-use bf_xcom::Given;
+use bf_xcom::{Given, SharedGiven};
 use std::alloc::Global;
 
 /// What is decided of a task in a run.
@@ -40,7 +40,7 @@ fn fresh_instances(
     let mut instances = Vec::with_capacity(alloc, givens.len())?;
     for given in givens.into_vec() {
         instances.push(Instance {
-            given,
+            given: SharedGiven::new(alloc, given)?,
             attempt: 1,
             phase: Phase::Waiting,
         })?;

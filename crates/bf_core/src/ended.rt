@@ -1,5 +1,5 @@
 //! Backfills that have ended, and the states of their runs.
-ghost use Rattle.std.specs.Prelude.{◌≡◌, ◌<◌, ◌≤◌, ◌↔◌, length, slice_index_or, ℕ, vec_len, IsTrue, IfOk, IfErr, OnOk};
+ghost use Rattle.std.specs.Prelude.{◌≡◌, ◌<◌, ◌↔◌, length, slice_index_or, ℕ, vec_len, IsTrue, IfOk, IfErr, OnOk};
 ghost use Rattle.std.specs.List.{list_any, list_all};
 ghost use Rattle.bf_core.specs.Recursion.{is_leaf_in, fails_run, run_fails_in, run_state_of};
 ghost use Rattle.bf_core.specs.Events.{value_in, value_or_blocked, row_of, HasEnded};
@@ -95,6 +95,23 @@ impl<'p> Ended<'p> {
         self.run_states.as_slice()
     }
 
+    /// The cells of all runs with the ledger, and the state of each run, in order of date. The journal, most of what
+    /// the end holds, is let go.
+    pub fn into_state(self) -> (State, Sequence<RunState>)
+        ensures state { result.0 ≡ self.entry.state }
+        ensures run_states { result.1 ≡ self.entry.run_states }
+        ensures end { IsEnd self.entry }
+    {
+        let Ended {
+            plan: _,
+            runs: _,
+            state,
+            run_states,
+            journal: _,
+        } = self;
+        (state, run_states)
+    }
+
     /// The events that led to the end.
     pub fn journal(&self) -> &[Event]
         ensures journal { result.now ≡ self.now.journal }
@@ -158,11 +175,11 @@ fn instances_fail_run(plan: &Plan, task: u32, instances: &[Instance]) -> bool
 /// Whether a run with these cells, one for each task in file order, fails once it is closed: a task is blocked or not
 /// settled, or is a leaf that failed or is upstream_failed.
 fn run_fails(plan: &Plan, cells: &[Cell]) -> bool
-    requires few { length plan.now.dag.tasks ≤ 2_000 }
-    requires one_each { length cells.now ≡ length plan.now.dag.tasks }
+    requires { length cells.now ≡ length plan.now.dag.tasks }
     ensures { result ≡ run_fails_in plan.now.dag
         (λ t. value_or_blocked (value_in (slice_index_or cells.now t Cell.Undecided))) }
 {
+    let _sound = plan.dag();
     for task in 0..cells.len() {
         if fails_its_run(plan, task as u32, &cells[task]) {
             return true;
@@ -174,8 +191,7 @@ fn run_fails(plan: &Plan, cells: &[Cell]) -> bool
 /// The state of a run once it is closed, by the cell of each task in file order: failed where `run_fails`, else
 /// success.
 fn run_state(plan: &Plan, cells: &[Cell]) -> RunState
-    requires few { length plan.now.dag.tasks ≤ 2_000 }
-    requires one_each { length cells.now ≡ length plan.now.dag.tasks }
+    requires { length cells.now ≡ length plan.now.dag.tasks }
     ensures { result ≡ run_state_of plan.now.dag
         (λ t. value_or_blocked (value_in (slice_index_or cells.now t Cell.Undecided))) }
 {
@@ -195,7 +211,6 @@ fn are_closed(runs: &[Run]) -> bool
 
 /// Writes the state that each run has once it is closed to its place in `states`, which has one place for each run.
 fn write_states(plan: &Plan, runs: &[Run], states: &mut Vec<RunState>)
-    requires few { length plan.now.dag.tasks ≤ 2_000 }
     requires rows { (k : ℕ) → k < length runs.now → length (row_of runs.now k).cells
         ≡ length plan.now.dag.tasks }
     requires room { vec_len states.old ≡ length runs.now }

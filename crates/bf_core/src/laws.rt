@@ -1,6 +1,6 @@
 //! What holds of every backfill, whatever the order of its events. These functions do nothing: their contracts are
 //! the laws, over the definitions alone.
-ghost use Rattle.std.specs.Prelude.{◌≡◌, ◌<◌, ℕ, List, Option};
+ghost use Rattle.std.specs.Prelude.{◌≡◌, ℕ, List, Option};
 ghost use Rattle.std.specs.FinMap;
 ghost use Rattle.bf_core.specs.Terms.{Dag, Limits, Entry, Event, Ledger, TaskValue, name_cmp, IsSound, AreAlike};
 ghost use Rattle.bf_core.specs.Deciding.{Seen, decision};

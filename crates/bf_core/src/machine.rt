@@ -18,7 +18,7 @@ use bf_pool::{NoRoom, Pools};
 use bf_runs::RunCount;
 use bf_try::{Entry, Ledger, Outcome, fits};
 use bf_value::{JobName, OutOfMemory};
-use bf_xcom::{Given, RunState};
+use bf_xcom::{RunState, SharedGiven};
 use std::alloc::Global;
 use std::marker::Model;
 
@@ -272,7 +272,7 @@ impl<'a> Core<'a> {
         if !fits(self.plan, name.task, outcome) {
             return Err(Illegal::NotEnabled);
         }
-        let (entry, kept) = entry_and_kept_outcome(self.alloc, &instance.given, outcome)?;
+        let (entry, kept) = entry_and_kept_outcome(&instance.given, outcome)?;
         Ok(Ending {
             entry,
             kept,
@@ -355,11 +355,10 @@ struct Ending {
     retry: Retry,
 }
 
-/// The ledger entry of a try that was given `given` and ends with `outcome`, and a copy of the outcome for its
-/// instance.
+/// The ledger entry of a try that was given `given` and ends with `outcome`, and that outcome for its instance. They
+/// share what was given and pushed.
 fn entry_and_kept_outcome(
-    alloc: Global,
-    given: &Given,
+    given: &SharedGiven,
     outcome: &Outcome,
 ) -> Result<(Entry, Outcome), OutOfMemory>
     ensures entry { IfOk result (λ both. both.0
@@ -367,10 +366,10 @@ fn entry_and_kept_outcome(
     ensures kept { IfOk result (λ both. both.1 ≡ outcome.now) }
 {
     let entry = Entry {
-        given: given.copy(alloc)?,
-        outcome: outcome.copy(alloc)?,
+        given: given.share()?,
+        outcome: outcome.share()?,
     };
-    Ok((entry, outcome.copy(alloc)?))
+    Ok((entry, outcome.share()?))
 }
 
 /// Refuses a run that may not be closed: `Stranger` where it isn't there, `NotEnabled` where it isn't open or a task

@@ -5,7 +5,6 @@ ghost use Rattle.bf_core.specs.Events.{value_in, cell_at, before_in};
 ghost use Rattle.bf_core.specs.Deciding.{past_ruling, past_after};
 ghost use Rattle.bf_core.specs.inner.Words.{passed, ran_ruling};
 
-use crate::expansion::decide_instances;
 use crate::state::{Cell, Instance, Phase, State, are_finished};
 use bf_rule::Verdict;
 use bf_try::Outcome;

@@ -81,7 +81,7 @@ fn pushed_by_all(alloc: Global, instances: &[Instance]) -> Result<Vec<Xval>, Out
 }
 
 /// What is pulled from the task `source` with these instances: what its only one pushed, or where `source` is expanded,
-/// the list of what they pushed. None while one hasn't finished, or where the only one pushed nothing.
+/// the list of what they pushed. Nothing while one hasn't finished, or where the only one isn't there or pushed nothing.
 fn pull_from(
     alloc: Global,
     source: &Task,
@@ -100,7 +100,7 @@ fn pull_from(
 }
 
 impl Cell {
-    /// What is pulled from the task `source` with this cell; None where the cell isn't settled or the task didn't run,
+    /// What is pulled from the task `source` with this cell; nothing where the cell isn't settled or the task didn't run,
     /// or where it isn't expanded and pushed nothing.
     #[tactic(auto, using(crate::proofs::Pulled::ran_pull))]
     fn pull(&self, alloc: Global, source: &Task) -> Result<SharedValue, OutOfMemory>
@@ -116,7 +116,7 @@ impl Cell {
     }
 }
 
-/// What is pulled from the task `source` in a run; None where it isn't there, isn't settled or didn't run, or where it
+/// What is pulled from the task `source` in a run; nothing where it isn't there, isn't settled or didn't run, or where it
 /// isn't expanded and pushed nothing.
 fn pull_in_run(
     alloc: Global,

@@ -79,8 +79,8 @@ impl<'a> Core<'a> {
         is_settled(&self.state, run, task)
     }
 
-    /// The instance that a name speaks of, whichever of its tries is named, by its map index; None where there is none
-    /// now.
+    /// The instance at the place of a name (`place_of`), whichever of its tries is named; None where there is none now.
+    /// Whether the map index suits the task isn't looked at.
     pub fn instance(&self, name: JobName) -> Option<&Instance>
         ensures { option_copied result
             ≡ instance_of (cell_at self.now.state name.run name.task) (place_in self.now.dag name) }

@@ -12,7 +12,7 @@ ghost use Rattle.bf_core.specs.inner.Tries.{changed, IsCountable};
 use bf_rule::Counts;
 use bf_try::{Ledger, Outcome};
 use bf_value::{OutOfMemory, Sequence};
-use bf_xcom::Given;
+use bf_xcom::SharedGiven;
 use std::alloc::Global;
 
 /// How far an instance has come.
@@ -69,7 +69,7 @@ impl Phase {
 /// An instance of a task in a run: what its tries are given, and how far it has come.
 #[derive(Debug, Drop)]
 pub struct Instance {
-    pub given: Given,
+    pub given: SharedGiven,
     /// The number of its present try, from 1.
     pub attempt: u32,
     pub phase: Phase,
@@ -246,7 +246,7 @@ fn undecided_cells(alloc: Global, tasks: usize) -> Result<Sequence<Cell>, OutOfM
     ensures { IfOk result (λ cells. cells ≡ undecided_cells_of tasks) }
 {
     let mut cells = Vec::with_capacity(alloc, tasks)?;
-    for _made in 0..tasks {
+    for _task in 0..tasks {
         cells.push(Cell::Undecided)?;
     }
     Ok(Sequence::from_vec(cells))
@@ -262,7 +262,7 @@ pub(crate) fn unopened_runs(
     ensures { IfOk result (λ made. made ≡ empty_runs_of tasks runs) }
 {
     let mut made = Vec::with_capacity(alloc, runs)?;
-    for _made in 0..runs {
+    for _run in 0..runs {
         made.push(Run {
             phase: RunPhase::Unopened,
             cells: undecided_cells(alloc, tasks)?,

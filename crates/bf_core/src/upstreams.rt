@@ -40,7 +40,7 @@ fn counts_of_upstreams(state: &State, run: u32, upstreams: &[u32]) -> Counts
     counts
 }
 
-/// Whether a task is decided in a run and all its instances are finished; false where there is no such task.
+/// Whether a task is decided in a run and all its instances are finished; false where the run or the task isn't there.
 pub(crate) fn is_settled(state: &State, run: u32, task: u32) -> bool
     ensures { result ≡ is_some (value_in (cell_at state.now run task)) }
 {

@@ -20,7 +20,7 @@ places_of_task dag all k t =
     else filter (is_of k t) all.seeds)
     else []
 
--- those of the numbers below n
+-- what f gives of the numbers below n, one after the other
 abbrev pub up_to : (ℕ → List Place) → ℕ → List Place
 up_to f zero = []
 up_to f (suc n) = up_to f n ++ f n

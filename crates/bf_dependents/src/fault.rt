@@ -13,7 +13,7 @@ pub enum ClearFault {
     UnknownTask,
     /// A seed names a run whose logical date is the start of no data interval.
     UnknownRun,
-    /// The report isn't one of this graph over these data intervals.
+    /// The report isn't one of this graph or, unless it is cleared by ids, over these data intervals.
     ReportMismatch,
     /// Memory ran out.
     OutOfMemory,
@@ -57,6 +57,7 @@ impl From<OutOfMemory> for ClearFault {
 
     ghost from_gives = { λ _ e. e ≡ OutOfMemory };
 
+    /// Gives `OutOfMemory`.
     fn from(_e: OutOfMemory) -> ClearFault {
         ClearFault::OutOfMemory
     }

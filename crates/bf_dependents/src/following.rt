@@ -21,7 +21,8 @@ fn any_is_marked(marks: &[bool], tasks: &[u32]) -> bool
 }
 
 /// Whether task number `task` has to be marked in a run: `seeded` marks it as a seed, it depends on its past and is
-/// marked in `before`, the run before, or an upstream of it is marked in `marks`, this run.
+/// marked in `before`, the run before, or an upstream of it is marked in `marks`, this run. Each is a row of marks by
+/// task number; a task that a row lacks is unmarked.
 pub(crate) fn follows(
     dag: &Dag,
     task: u32,

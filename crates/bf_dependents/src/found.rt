@@ -67,7 +67,7 @@ impl Followers {
     }
 
     /// Whether an instance of task number `task` follows in run number `run`; false where there is no such run or task.
-    pub(crate) fn is_touched(&self, run: u32, task: u32) -> bool
+    pub(crate) fn has_task(&self, run: u32, task: u32) -> bool
         ensures { result ≡ is_marked_in (row_at self.now.touched run) task }
     {
         is_marked(marks_at(self.touched.as_slice(), run), task)
@@ -82,7 +82,7 @@ impl Followers {
 
     /// Whether all instances of a task follow in a run, given that one does: the task is a seed without a map index, or
     /// it follows from others.
-    pub(crate) fn is_whole(&self, dag: &Dag, run: u32, task: u32) -> bool
+    pub(crate) fn has_whole_task(&self, dag: &Dag, run: u32, task: u32) -> bool
         requires { task < length dag.now.tasks }
         ensures { result ≡ is_whole_in dag.now self.now run task }
     {
@@ -109,7 +109,7 @@ impl Followers {
         requires { task < length dag.now.tasks }
         ensures { result ≡ has_instance_in dag.now self.now run task index }
     {
-        self.is_touched(run, task) && self.follows_if_touched(dag, run, task, index)
+        self.has_task(run, task) && self.follows_if_touched(dag, run, task, index)
     }
 }
 

@@ -33,10 +33,10 @@ impl Followers {
         requires { task < length dag.now.tasks }
         ensures { IfOk result (λ found. found.items ≡ places_of_task dag.now self.now run task) }
     {
-        if !self.is_touched(run, task) {
+        if !self.has_task(run, task) {
             return Ok(Vec::new(alloc));
         }
-        if self.is_whole(dag, run, task) {
+        if self.has_whole_task(dag, run, task) {
             let index = None;
             return Ok(vec![in alloc; Place { run, task, index }]?);
         }

@@ -7,7 +7,7 @@ use Rattle.bf_disk.specs.declared.new_file.NewFile.{NewFile}
 abbrev pub path_begun : {R : Type 0} → Disk R → Option (List ℕ)
 path_begun disk = option_map (λ target. string_bytes target.path) disk.target
 
--- whether one could not be
+-- whether a call that replaces a file has failed
 abbrev pub has_failed_on : {R : Type 0} → Disk R → Bool
 has_failed_on disk = disk.failed
 

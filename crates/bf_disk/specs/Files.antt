@@ -9,7 +9,7 @@ Files = List ℕ → Option (Option (List ℕ))
 abbrev pub IsHeld : Option (Option (List ℕ)) → List ℕ → Type 0
 IsHeld file bytes = file ≡ Some (Some bytes)
 
--- so it is with a file where one is named
+-- where a path is named, its file is told to hold these bytes; where none is, there are none
 abbrev pub IsHeldIfNamed : Files → Option (List ℕ) → Option (List ℕ) → Type 0
 IsHeldIfNamed files None None = Unit {0}
 IsHeldIfNamed files (Some path) (Some bytes) = IsHeld (files path) bytes

@@ -1,7 +1,7 @@
 -- Adding steps to an agenda, of several kinds in turn.
 use Rattle.std.proofs.Common.{◌≡◌, ◌⊎◌, ℕ, zero, suc, ◌+◌, ◌<◌, ◌≤◌, Bool, true, false, List, [], ◌∷◌, length, get_or, slice_set, Some, Contains, refl, sym, ap, ◌∙◌, subst, subst₂, inl, inr, arith}
 use Rattle.std.proofs.lemmas.Bool.{both_ways}
-use Rattle.std.specs.List.Sorted.{IsStrictlyIncreasing}
+use Rattle.std.specs.List.Sorted.{IsPermutation, IsStrictlyIncreasing}
 use Rattle.bf_graph.specs.Edges.{IsRank, IsUpstream}
 use Rattle.bf_graph.specs.Lookups.{IsRisingListOf}
 use Rattle.bf_graph.proofs.PathLemmas.{task_within}
@@ -23,6 +23,7 @@ use Rattle.bf_due.specs.Stirring.{is_settled}
 use Rattle.bf_due.specs.inner.Stirring.{may_let_be_decided_in}
 use Rattle.bf_due.specs.Dues.{HasAdded, IsDueStep, IsRanked}
 use Rattle.bf_due.specs.inner.Dues.{Asks, AsksAll, IsAround, IsBelow, IsCloseOf, IsOfFirst, IsOfRun, IsOfRunBelow, IsOfTask, IsOpening, IsStirred, IsUnder}
+use Rattle.bf_due.proofs.AgendaFacts.{kept_added, only_added, there_added}
 use Rattle.bf_due.proofs.Reached.{held_at, row_put}
 
 module _ (b : Backfill) where
@@ -43,12 +44,11 @@ module _ (b : Backfill) where
   fewer_added P Q old new fewer all = record { kept = all.kept; added = λ x q due. all.added x (fewer x q) due; ranked = all.ranked }
 
   -- one step was added, and no other of these may come
-  pub one_added : (P : Step → Type 0) (step : Step) (old new : List Step) → IsRanked b.dag step → ((x : Step) → P x → IsDueStep b x → x ≡ step) → Contains new step →
-      ((x : Step) → Contains old x → Contains new x) → ((x : Step) → Contains new x → (x ≡ step) ⊎ Contains old x) → HasAdded b P old new
-  one_added P step old new is_ranked only there kept from = record {
-    kept = kept;
-    added = λ x p due. subst (λ (y : Step). Contains new y) (sym (only x p due)) there;
-    ranked = λ h x c. elim (from x c) [ inl same ↦ subst (λ (y : Step). IsRanked b.dag y) (sym same) is_ranked | inr before ↦ h x before ];
+  pub one_added : (P : Step → Type 0) (step : Step) (old new : List Step) → IsRanked b.dag step → ((x : Step) → P x → IsDueStep b x → x ≡ step) → IsPermutation (step ∷ old) new → HasAdded b P old new
+  one_added P step old new is_ranked only gained = record {
+    kept = kept_added step old new gained;
+    added = λ x p due. subst (λ (y : Step). Contains new y) (sym (only x p due)) (there_added step old new gained);
+    ranked = λ h x c. elim (only_added step old new gained x c) [ inl same ↦ subst (λ (y : Step). IsRanked b.dag y) (sym same) is_ranked | inr before ↦ h x before ];
   }
 
 -- ---- the step of a task

@@ -1,7 +1,7 @@
 -- Agendas: what is in them after a change, and that the top comes first.
 use Rattle.std.proofs.Common.{◌≡◌, ◌⊎◌, ℕ, ◌<◌, ◌≤◌, false, Ordering, Less, Equal, Greater, List, [], ◌∷◌, map, slice_get, Option, None, Some, refl, sym, ◌∙◌, subst, inl, inr, arith}
 use Rattle.std.specs.List.{Contains}
-use Rattle.std.specs.Prelude.{IfSome}
+use Rattle.std.specs.Prelude.{IfNone, IfSome}
 use Rattle.std.specs.List.Sorted.{IsPermutation}
 use Rattle.std.specs.Ordering.{nat_cmp, ordering_then, is_lt}
 use Rattle.std.specs.BinaryHeap.{IsUpperBound}
@@ -84,26 +84,30 @@ bounded top (z ∷ zs) b y c = elim (contains_cases z.0 (unwrapped zs) y c) [
   | inr more ↦ bounded top zs b.1 y more
 ]
 
-pub added : (x : Reverse Step) (old new : List (Reverse Step)) → IsPermutation (x ∷ old) new → Contains (unwrapped new) x.0
-added x old new p = Contains-permutation (unwrapped (x ∷ old)) (unwrapped new) x.0 (IsPermutation-map (λ (r : Reverse Step). r.0) (x ∷ old) new p) (contains_first x.0 (unwrapped old))
+pub unwrapped_alike : (xs ys : List (Reverse Step)) → IsPermutation xs ys → IsPermutation (unwrapped xs) (unwrapped ys)
+unwrapped_alike xs ys p = IsPermutation-map (λ (r : Reverse Step). r.0) xs ys p
 
-pub kept_added : (x : Reverse Step) (old new : List (Reverse Step)) → IsPermutation (x ∷ old) new → (y : Step) → Contains (unwrapped old) y → Contains (unwrapped new) y
-kept_added x old new p y c = Contains-permutation (unwrapped (x ∷ old)) (unwrapped new) y (IsPermutation-map (λ (r : Reverse Step). r.0) (x ∷ old) new p) (contains_rest x.0 (unwrapped old) y c)
+-- ---- one step more, or less
 
-pub only_added : (x : Reverse Step) (old new : List (Reverse Step)) → IsPermutation (x ∷ old) new → (y : Step) → Contains (unwrapped new) y → (y ≡ x.0) ⊎ Contains (unwrapped old) y
-only_added x old new p y c = contains_cases x.0 (unwrapped old) y (Contains-permutation (unwrapped new) (unwrapped (x ∷ old)) y (IsPermutation-map (λ (r : Reverse Step). r.0) new (x ∷ old) (IsPermutation-sym (x ∷ old) new p)) c)
+pub there_added : (x : Step) (old new : List Step) → IsPermutation (x ∷ old) new → Contains new x
+there_added x old new p = Contains-permutation (x ∷ old) new x p (contains_first x old)
 
-pub kept_taken : (x : Reverse Step) (old new : List (Reverse Step)) → IsPermutation old (x ∷ new) → (y : Step) → Contains (unwrapped old) y → (y ≡ x.0) ⊎ Contains (unwrapped new) y
-kept_taken x old new p y c = contains_cases x.0 (unwrapped new) y (Contains-permutation (unwrapped old) (unwrapped (x ∷ new)) y (IsPermutation-map (λ (r : Reverse Step). r.0) old (x ∷ new) p) c)
+pub kept_added : (x : Step) (old new : List Step) → IsPermutation (x ∷ old) new → (y : Step) → Contains old y → Contains new y
+kept_added x old new p y c = Contains-permutation (x ∷ old) new y p (contains_rest x old y c)
+
+pub only_added : (x : Step) (old new : List Step) → IsPermutation (x ∷ old) new → (y : Step) → Contains new y → (y ≡ x) ⊎ Contains old y
+only_added x old new p y c = contains_cases x old y (Contains-permutation new (x ∷ old) y (IsPermutation-sym (x ∷ old) new p) c)
 
 -- what is not the step that was taken out is still there
 pub still_there : (r : Option Step) (old new : List Step) (step x : Step) → r ≡ slice_get old 0 → Some step ≡ slice_get old 0 →
-    IfSome r (λ z. (y : Step) → Contains old y → (y ≡ z) ⊎ Contains new y) → (x ≡ step → ⊥) → Contains old x → Contains new x
-still_there None old new step x e f kept other c = let g : None ≡ Some step = e ∙ sym f in cc
-still_there (Some z) old new step x e f kept other c =
+    IfSome r (λ z. IsPermutation old (z ∷ new)) → (x ≡ step → ⊥) → Contains old x → Contains new x
+still_there None old new step x e f lost other c = let g : None ≡ Some step = e ∙ sym f in cc
+still_there (Some z) old new step x e f lost other c =
     let g : Some z ≡ Some step = e ∙ sym f in
     let same : z ≡ step = cc in
-    elim (kept x c) [ inl h ↦ absurd (other (h ∙ same)) | inr h ↦ h ]
+    elim (contains_cases z new x (Contains-permutation old (z ∷ new) x lost c)) [ inl h ↦ absurd (other (h ∙ same)) | inr h ↦ h ]
 
-pub taken_fewer : (x : Reverse Step) (old new : List (Reverse Step)) → IsPermutation old (x ∷ new) → (y : Step) → Contains (unwrapped new) y → Contains (unwrapped old) y
-taken_fewer x old new p y c = Contains-permutation (unwrapped (x ∷ new)) (unwrapped old) y (IsPermutation-map (λ (r : Reverse Step). r.0) (x ∷ new) old (IsPermutation-sym old (x ∷ new) p)) (contains_rest x.0 (unwrapped new) y c)
+-- what is there then was there before
+pub was_there : (r : Option Step) (old new : List Step) → IfSome r (λ z. IsPermutation old (z ∷ new)) → IfNone r (new ≡ old) → (y : Step) → Contains new y → Contains old y
+was_there None old new lost same y c = subst (λ (xs : List Step). Contains xs y) same c
+was_there (Some z) old new lost same y c = Contains-permutation (z ∷ new) old y (IsPermutation-sym old (z ∷ new) lost) (contains_rest z new y c)

@@ -1,5 +1,6 @@
 //! Steps, of which the first is at hand.
-ghost use Rattle.std.specs.Prelude.{◌≡◌, ◌⊎◌, ◌≤◌, ◌+◌, [], length, slice_get, Contains, IfSome, IfNone, OnOk, OnSome};
+ghost use Rattle.std.specs.Prelude.{◌≡◌, ◌≤◌, ◌+◌, [], ◌∷◌, length, slice_get, Contains, IfSome, IfNone, OnOk, OnSome};
+ghost use Rattle.std.specs.List.Sorted.{IsPermutation};
 ghost use Rattle.bf_due.specs.Agendas.{Comes, event_of};
 ghost use Rattle.bf_due.specs.declared.agenda.Step.{Step};
 
@@ -85,6 +86,7 @@ impl Agenda {
     /// Makes room for so many steps more. The steps stay as they are, at `Err` too.
     pub fn make_room(&mut self, steps: usize) -> Result<(), OutOfMemory>
         ensures items { self.new.items ≡ self.old.items }
+        ensures grown { self.old.room ≤ self.new.room }
         ensures room { OnOk result (length self.new.items + steps ≤ self.new.room) }
     {
         self.heap.reserve(steps)?;
@@ -107,10 +109,7 @@ impl Agenda {
     /// Adds a step, for which there is room.
     pub fn add(&mut self, step: Step)
         requires { length self.old.items + 1 ≤ self.old.room }
-        ensures added { Contains self.new.items step }
-        ensures kept { (y : Step) → Contains self.old.items y → Contains self.new.items y }
-        ensures only { (y : Step) → Contains self.new.items y → (y ≡ step)
-            ⊎ Contains self.old.items y }
+        ensures gained { IsPermutation (step ∷ self.old.items) self.new.items }
         ensures len { length self.new.items ≡ length self.old.items + 1 }
         ensures room { self.old.room ≤ self.new.room }
     {
@@ -123,11 +122,10 @@ impl Agenda {
     /// Takes the first step out; None where there is none.
     pub fn take_first(&mut self) -> Option<Step>
         ensures top { result ≡ slice_get self.old.items 0 }
-        ensures kept { IfSome result (λ x. (y : Step) → Contains self.old.items y → (y ≡ x)
-            ⊎ Contains self.new.items y) }
-        ensures fewer { (y : Step) → Contains self.new.items y → Contains self.old.items y }
+        ensures lost { IfSome result (λ x. IsPermutation self.old.items (x ∷ self.new.items)) }
         ensures len { OnSome result (length self.new.items + 1 ≡ length self.old.items) }
         ensures none { IfNone result (self.new.items ≡ self.old.items) }
+        ensures room { self.new.room ≡ self.old.room }
     {
         let top = self.heap.pop()?;
         Some(top.0)

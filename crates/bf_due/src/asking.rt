@@ -127,9 +127,9 @@ fn add_decision_if_unawaited(
     }
 }
 
-/// Whether a task, directly below this upstream, waits until the upstream is settled: its rule does, or the upstream is
-/// a branch.
-fn waits_for(core: &Core<'_>, upstream: u32, task: u32) -> bool
+/// Whether an upstream keeps a task, directly below it, waiting until the upstream is settled: the task's rule waits, or
+/// the upstream is a branch.
+fn keeps_waiting(core: &Core<'_>, upstream: u32, task: u32) -> bool
     requires { task < length core.now.dag.tasks }
     ensures { result ≡ waits_for_in core.now.dag upstream task }
 {
@@ -157,7 +157,7 @@ fn may_let_be_decided(row: &mut Cursors, core: &Core<'_>, news: News, task: u32)
         → may_let_be_decided_in core.now.dag core.now.state news task ≡ false }
     ensures reached { IsNoted core.now news.run row.old → IsNoted core.now news.run row.new }
 {
-    if waits_for(core, news.task, task) {
+    if keeps_waiting(core, news.task, task) {
         return row.is_settled(core, news.run, news.task);
     }
     let dag = core.plan().dag();

@@ -176,7 +176,7 @@ impl Cursors {
     }
 
     /// Whether a task needn't wait for an upstream in a run: it is settled, or it is no branch and the task's rule is
-    /// `early`.
+    /// `early`. Moves the upstream's cursor past its first finished instances.
     fn lets_decide(&mut self, core: &Core<'_>, run: u32, upstream: u32, early: bool) -> bool
         ensures lets { IsNoted core.now run self.old → result
             ≡ lets early core.now.dag core.now.state run upstream }
@@ -185,8 +185,9 @@ impl Cursors {
         self.is_settled(core, run, upstream) || (early && !core.plan().dag().is_branch(upstream))
     }
 
-    /// The place, from 0, of the first upstream for which a task waits, looking from the place `from` on; else how many
-    /// upstreams it has. `early` says that the task's rule may decide before all of them are settled.
+    /// The place, from 0, of the first upstream from the place `from` on that isn't settled; where `early`, one that is
+    /// no branch counts as settled. How many upstreams there are, where there is none. Moves the upstreams' cursors past
+    /// their first finished instances.
     fn first_awaited(
         &mut self,
         core: &Core<'_>,

@@ -52,7 +52,7 @@ fn is_there(core: &Core<'_>, run: u32, task: u32) -> bool
 }
 
 /// Whether the run and the task are there which an event decides, or of which it ends a try; true for other events.
-fn speaks_of_task(core: &Core<'_>, event: &Event) -> bool
+fn names_no_stranger(core: &Core<'_>, event: &Event) -> bool
     ensures { IsTrue result ↔ SpeaksOfTask core.now.dag core.now.state event.now }
 {
     match event {
@@ -200,7 +200,7 @@ impl Due {
             → IsUpToDate b self.old → IsUpToDate core.now self.new }
     {
         let _runs = run_count(core);
-        if speaks_of_task(core, event) {
+        if names_no_stranger(core, event) {
             add_steps_after(&mut self.agenda, &mut self.progress, core, event);
             forget_closed(self.alloc, &mut self.progress, event);
             drop_outdated_steps(&mut self.agenda, core);

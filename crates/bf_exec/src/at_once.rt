@@ -5,7 +5,7 @@ use bf_kept::{Keeping, KeptTries};
 use bf_try::{Done, RunnerFault, TaskRunner, Ticket};
 use bf_value::OutOfMemory;
 
-/// Answers tries at once, with no worker: those whose answers are at hand already.
+/// Answers tries at once, with no worker: those whose answers are at hand, or take no waiting.
 pub trait AnswerAtOnce {
     ghost use Rattle.bf_value.specs.declared.name.JobName.{JobName};
     ghost use Rattle.bf_xcom.specs.declared.values.Given.{Given};
@@ -48,16 +48,23 @@ impl<'a, R> AnswerAtOnce for ByWorkers<'a, R> {
     }
 }
 
-/// A kept try is answered at once. Where memory is wanting for that, a worker is to make it.
+/// A kept try is answered at once, and so is any other where the runner answers at once. Where memory is wanting for
+/// that, or the runner gives the try up, a worker is to make it.
 impl<'a, K: KeptTries, R: TaskRunner> AnswerAtOnce for Keeping<'a, K, R> {
     ghost use Rattle.bf_kept.specs.Kept.{IsAnswer};
 
     ghost may_answer_at_once = { λ s n g raw. IsAnswer (K.kept s.kept.now)
         (R.may_answer s.runner.now) n g raw };
 
-    /// Answers a kept try so that it ends as it did before. `Err` hands the ticket back where no kept try of its name
-    /// was given the same, or at want of memory.
+    /// Answers a kept try so that it ends as it did before, and any other where the runner answers at once. `Err` hands
+    /// the ticket back for any other, where the runner gives the try up, and at want of memory.
     fn answer_at_once(&self, ticket: Ticket) -> Result<Done, Ticket> {
+        if self.at_once {
+            return match self.run(ticket) {
+                Ok(done) => Ok(done),
+                Err((ticket, _)) => Err(ticket),
+            };
+        }
         match self.kept.answer(self.alloc, ticket.name(), ticket.given()) {
             Ok(Some(raw)) => Ok(ticket.answer(raw)),
             Ok(None) | Err(OutOfMemory) => Err(ticket),

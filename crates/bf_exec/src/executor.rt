@@ -1,5 +1,5 @@
 //! The turns of the scheduling thread, over the lanes of the workers.
-ghost use Rattle.std.specs.Prelude.{◌≡◌, ◌⊎◌, length, IfOk, IfErr, IfSome, IfNone, OnOk, OnErr};
+ghost use Rattle.std.specs.Prelude.{◌≡◌, length, IfOk, IfErr, IfSome, IfNone, OnOk, OnErr};
 ghost use Rattle.bf_sched.specs.Choices.{IsNextMoment};
 ghost use Rattle.bf_lane.specs.Closing.{ClosesAll};
 ghost use Rattle.bf_lane.specs.Lanes.{IsAllowedBy};
@@ -71,7 +71,8 @@ fn tick_to_present<C: TimeSource, O: Observer>(
 }
 
 /// Moves the clock to the present, ends the try of an answer, and shows the observer these events. `Stranger` where the
-/// try doesn't run or was given something else, `OutOfMemory` at want of memory.
+/// try doesn't run or was given something else, `OutOfMemory` at want of memory; at `Err` the try isn't ended, but the
+/// clock may have moved.
 fn end_answered_try<C: TimeSource, O: Observer>(
     done: Done,
     scheduler: &mut Scheduler<'_>,
@@ -126,13 +127,6 @@ impl<'s, K: Service + Send + Sync + 's> Executor<'s, K> {
         ensures { result ≡ lanes.entry }
     {
         Executor { lanes }
-    }
-
-    /// How many lanes there are.
-    pub fn lane_count(&self) -> usize
-        ensures { result ≡ length self.now }
-    {
-        self.lanes.len()
     }
 
     /// Waits for an answer, and gives it with the place of its lane, from 0. None only where `until`, in seconds since
@@ -227,7 +221,7 @@ impl<'s, K: Service + Send + Sync + 's> Executor<'s, K> {
                 }
             }
             Next::Wait => {
-                let until = scheduler.pending();
+                let until = scheduler.next_moment();
                 self.wait_and_end_try(rt, until, scheduler, watch)?;
                 Ok(true)
             }

@@ -21,7 +21,8 @@ use std::sync::Wait;
 use std::thread::Threads;
 
 /// Drives a backfill of the plan over these runs to its end, with kept tries: a kept try that is given the same again
-/// ends as it did, at once, and `keeping`'s runner answers every other. All else is as in `run_backfill`.
+/// ends as it did, at once, and `keeping`'s runner answers every other, at once too where it can. All else is as in
+/// `run_backfill`.
 ///
 /// If the runner could have given what is kept, it could have given all: a backfill that goes on from what is kept of a
 /// broken-off one ends as one that the runner answers alone.

@@ -23,7 +23,7 @@ fn pushed_text(alloc: Global, instance: &InstanceReport) -> Result<Text, OutOfMe
     ensures { IfOk result (λ text. text
         ≡ value_text_of 200 (pushed_by instance.now.result.outcome)) }
 {
-    let ended = instance.result(alloc)?;
+    let ended = instance.result()?;
     value_text(alloc, ended.outcome.pushed(), MOST_CHARACTERS)
 }
 
@@ -120,7 +120,7 @@ fn root_text(
 fn is_among(tasks: &[u32], task: u32) -> bool
     ensures { result ≡ list_any (λ other. other == task) tasks.now }
 {
-    tasks.iter().any(|other| *other == task)
+    tasks.contains(&task)
 }
 
 /// Whether a root lies in another run than `run`, or isn't directly upstream of `task`.

@@ -78,7 +78,7 @@ fn push_spaces(text: &mut String, count: usize) -> Result<(), OutOfMemory>
     ensures { OnOk result (string_bytes text.new
         ≡ string_bytes text.old ++ repeat count (32 ∷ [])) }
 {
-    for place in 0..count {
+    for _ in 0..count {
         text.push_str(" ")?;
     }
     Ok(())

@@ -42,7 +42,7 @@ fn tells_each(version: Version, instance: &InstanceReport, command: &[Word]) -> 
 fn tells_words(version: Version, instance: &InstanceReport, command: &[Word]) -> bool
     ensures { result ≡ tells_words_in version instance.now command.now }
 {
-    command.len() != 0 && tells_each(version, instance, command)
+    !command.is_empty() && tells_each(version, instance, command)
 }
 
 /// The map index of the instance to explain: `index` where the task ran expanded and an index is given, else -1.
@@ -113,7 +113,7 @@ fn by_hand_line(
 {
     let dag = plan.dag();
     let made = dag.task(task);
-    let ended = instance.result(alloc)?;
+    let ended = instance.result()?;
     let given = given_of(alloc, instance)?;
     let context = JobContext {
         data_interval_start: Moment::new(report.interval.start),

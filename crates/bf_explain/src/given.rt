@@ -63,7 +63,7 @@ pub(crate) fn pushed_lines(
 ) -> Result<Vec<Text>, OutOfMemory>
     ensures { IfOk result (λ lines. lines.items ≡ pushed_lines_of instance.now) }
 {
-    let ended = instance.result(alloc)?;
+    let ended = instance.result()?;
     let mut lines = Vec::new(alloc);
     if let Some(value) = ended.outcome.pushed() {
         lines.push(value_text(alloc, Some(value), MOST_CHARACTERS)?)?;

@@ -69,7 +69,7 @@ fn instance_heading(
         return heading_of(alloc, id, start, "no_status");
     };
     let name = instance_name(alloc, id, place)?;
-    let ended = instance.result(alloc)?;
+    let ended = instance.result()?;
     heading_of(alloc, name.as_str(), start, outcome_word(&ended.outcome))
 }
 

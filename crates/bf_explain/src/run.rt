@@ -4,30 +4,19 @@ ghost use Rattle.bf_explain.specs.Beside.{task_lines_of};
 ghost use Rattle.bf_explain.specs.Runs.{counts_lines_of, failed_tasks_of, is_not_tried_in, run_heading_of, run_lines_of, run_text, tasks_not_tried_of};
 ghost use Rattle.bf_explain.specs.Sections.{section};
 ghost use Rattle.bf_reason.specs.Settled.{IsFewTask, value_among};
-ghost use Rattle.bf_report.specs.Report.{run_state_word_of};
 
 use crate::beside::task_lines;
 use crate::run_why::run_why_lines;
 use crate::sections::{add_section, lines_text};
 use bf_moment::Moment;
 use bf_plan::Plan;
-use bf_reason::{Settled, counts_of_upstreams, settled_tasks};
-use bf_report::RunReport;
+use bf_reason::{Settled, counts_of_tasks, settled_tasks};
+use bf_report::{RunReport, run_state_word};
 use bf_value::{OutOfMemory, Text};
 use bf_why::{States, counts_text, has_instance_in};
 use bf_wording::one_line;
-use bf_xcom::{RunState, TaskValue};
+use bf_xcom::TaskValue;
 use std::alloc::{AllocError, Global};
-
-/// The word for the state of a run, `success` or `failed`.
-fn run_state_word(state: RunState) -> &'static str
-    ensures { result.now ≡ run_state_word_of state }
-{
-    match state {
-        RunState::Success => "success",
-        RunState::Failed => "failed",
-    }
-}
 
 /// The heading of a run, without a line feed, such as `run 2024-03-05T00:00:00Z to 2024-03-06T00:00:00Z: failed`: its
 /// data interval and its state.
@@ -53,7 +42,7 @@ fn counts_lines(
     if order.is_empty() {
         return Ok(Vec::new(alloc));
     }
-    let counts = counts_of_upstreams(settled, order);
+    let counts = counts_of_tasks(settled, order);
     one_line(alloc, counts_text(alloc, &counts)?)
 }
 

@@ -18,11 +18,7 @@ use std::alloc::Global;
 pub(crate) fn is_upstream_of(task: u32, other: &Task) -> bool
     ensures { result ≡ is_upstream_in task other.now }
 {
-    other
-        .upstreams
-        .as_slice()
-        .iter()
-        .any(|upstream| *upstream == task)
+    other.upstreams.as_slice().contains(&task)
 }
 
 /// Whether any task of the graph is directly downstream of task number `task`.

@@ -25,6 +25,7 @@ pub record Pushes (raw : Raw) (value : Option Xval) : Type 0 where
   pub is_text : IsUtf8 line
   pub says : value_of_line line ≡ value
 
+-- what the failure says of the answer is true
 abbrev pub IsCause : Dag → ℕ → Raw → Failure → Type 0
 IsCause dag task raw (Status status) =
     (line : List ℕ) × (raw ≡ ended status line) × (status ≢ pos 0) × (status ≢ pos 99)

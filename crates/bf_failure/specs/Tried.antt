@@ -17,7 +17,7 @@ pub record IsContext (dag : Dag) (task : Task) (interval : Interval) (name : Job
   pub map_index : context.map_index ≡ name.index
   pub try_number : context.try_number ≡ name.attempt
 
--- there are such a task and such a run
+-- the try of this name, of a task and in a run that are there
 pub record IsContextOf (dag : Dag) (intervals : List Interval) (name : JobName)
     (context : JobContext) : Type 0 where
   pub task : Task

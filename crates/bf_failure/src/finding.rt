@@ -84,7 +84,7 @@ fn gives_items(dag: &Dag, task: u32) -> bool
 }
 
 /// Answers whether the task is a branch and the pushed value isn't one that names tasks directly downstream of it.
-fn names_no_downstream(plan: &Plan, task: u32, value: &Option<Xval>) -> bool
+fn is_branch_without_downstream(plan: &Plan, task: u32, value: &Option<Xval>) -> bool
     ensures { result ≡ (is_branch_in (task_of plan.now.dag task)
         && not (names_downstreams_in (shape_of plan.now.dag) task value.now)) }
 {
@@ -93,7 +93,7 @@ fn names_no_downstream(plan: &Plan, task: u32, value: &Option<Xval>) -> bool
 
 /// Answers whether the task gives items to others (`gives_items`) and the pushed value isn't a list of at most
 /// `MOST_ITEMS`.
-fn is_no_list_of_items(plan: &Plan, task: u32, value: &Option<Xval>) -> bool
+fn is_source_without_items(plan: &Plan, task: u32, value: &Option<Xval>) -> bool
     requires { task < length plan.now.dag.tasks }
     ensures { result ≡ (gives_items_in plan.now.dag task && not (is_list_of_items_in value.now)) }
 {
@@ -123,10 +123,10 @@ fn find_failure_in_value(
     if !is_short_value(value) {
         return Ok(Some(Failure::LongValue));
     }
-    if names_no_downstream(plan, task, value) {
+    if is_branch_without_downstream(plan, task, value) {
         return Ok(Some(Failure::NoDownstream(json_of(alloc, value)?)));
     }
-    if is_no_list_of_items(plan, task, value) {
+    if is_source_without_items(plan, task, value) {
         return Ok(Some(Failure::NoItems(id_of_first_expanded_over(alloc, plan.dag(), task)?)));
     }
     Ok(None)

@@ -1,5 +1,5 @@
 //! A runner that tells why tries fail.
-ghost use Rattle.std.specs.Prelude.{◌≡◌, Some, option_map};
+ghost use Rattle.std.specs.Prelude.{◌≡◌, IfOk, Some, option_copied, option_map};
 ghost use Rattle.bf_failure.specs.Told.{MayTellOf, may_tell_to};
 
 use crate::context::context_of;
@@ -111,8 +111,10 @@ impl<'a, R: DetailedRunner + Drop, T: Teller + Drop> Telling<'a, R, T> {
     }
 }
 
-/// Copies a detail, if there is one. No contract covers this.
-fn copy_detail(alloc: Global, detail: &Option<Detail>) -> Result<Option<Detail>, OutOfMemory> {
+/// Copies a detail, if there is one.
+fn copy_detail(alloc: Global, detail: Option<&Detail>) -> Result<Option<Detail>, OutOfMemory>
+    ensures { IfOk result (λ copy. copy ≡ option_copied detail.entry) }
+{
     match detail {
         Some(detail) => Ok(Some(detail.copy(alloc)?)),
         None => Ok(None),
@@ -139,7 +141,7 @@ impl<'a, R: DetailedRunner + Drop, T: Teller + Drop> DetailedRunner for Telling<
     ) -> Result<(Done, Option<Detail>), (Ticket, RunnerFault)> {
         let (done, detail) = self.runner.run_in_detail(ticket)?;
         if let Some(teller) = &self.teller
-            && let Ok(detail) = copy_detail(self.alloc, &detail)
+            && let Ok(detail) = copy_detail(self.alloc, detail.as_ref())
         {
             let _ = self.tell(teller, &done, detail);
         }

@@ -64,14 +64,14 @@ rows_text names widths colored dag count each runs tasks =
 -- ---- the whole
 
 -- where these runs and tasks are shown, with names so wide, sums so wide, and so many runs a column
-abbrev pub table_by : View → Dag → List RunReport → List ℕ → ℕ → Widths → ℕ → List ℕ
-table_by view dag runs tasks names widths each =
-    each_line each ++ 10 ∷ (rows_text names widths view.colored dag
+abbrev pub table_by : Bool → Dag → List RunReport → List ℕ → ℕ → Widths → ℕ → List ℕ
+table_by colored dag runs tasks names widths each =
+    each_line each ++ 10 ∷ (rows_text names widths colored dag
     (div_ceil (length runs) each) each runs tasks ++ failing_text dag (failing_of runs tasks))
 
 abbrev pub table_with : View → Dag → List RunReport → List ℕ → ℕ → Widths → List ℕ
 table_with view dag runs tasks names widths =
-    table_by view dag runs tasks names widths
+    table_by view.colored dag runs tasks names widths
     (div_ceil (length runs) (column_count_in view.width names widths))
 
 abbrev pub table_text : View → Dag → List RunReport → List ℕ → List ℕ

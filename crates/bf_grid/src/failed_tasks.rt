@@ -33,7 +33,7 @@ fn failed_starts(alloc: Global, runs: &[&RunReport], task: u32) -> Result<Vec<Mo
 {
     let mut starts = Vec::new(alloc);
     for run in runs {
-        if tally_at(alloc, run, task)?.failed > 0 {
+        if tally_at(run, task)?.failed > 0 {
             starts.push(Moment::new(run.interval.start))?;
         }
     }

@@ -8,7 +8,7 @@ use crate::failed_tasks::push_failing;
 use crate::grid_table::Table;
 use crate::row::{Columns, Layout};
 use crate::selection::{name_width, shown_runs, shown_tasks, total_in};
-use crate::summary::{Shown, push_head, push_left_out, push_runs_a_column};
+use crate::summary::{Shown, push_head, push_left_out, push_runs_per_column};
 use bf_device::{Cause, Write, WriteFault, send};
 use bf_marks::{View, Widths, column_count_of, push, tally_of_shown_states, tasks_in_order};
 use bf_plan::Dag;
@@ -30,18 +30,16 @@ impl ShownParts<'_> {
         self,
         alloc: Global,
         text: &mut Vec<u8>,
-        view: &View,
         layout: Layout,
         each: usize,
     ) -> Result<(), OutOfMemory>
-        requires some { 0 < each }
-        requires colors { layout.colored ≡ view.now.colored }
+        requires { 0 < each }
         ensures { OnOk result (text.new.items ≡ text.old.items
-            ++ table_by view.now self.entry.dag.now
+            ++ table_by layout.colored self.entry.dag.now
             (map (λ run. run.now) self.entry.runs.now) self.entry.tasks.now layout.names
             layout.widths each) }
     {
-        push_runs_a_column(alloc, text, each)?;
+        push_runs_per_column(alloc, text, each)?;
         push(text, b"\n")?;
         let columns = Columns {
             runs: self.runs,
@@ -68,7 +66,7 @@ impl ShownParts<'_> {
     {
         let width = view.width as usize;
         let names = name_width(self.dag, self.tasks, width);
-        let total = total_in(alloc, self.runs, self.tasks)?;
+        let total = total_in(self.runs, self.tasks)?;
         let widths = Widths::of(alloc, total, tally_of_shown_states(self.runs))?;
         let each = self
             .runs
@@ -79,7 +77,7 @@ impl ShownParts<'_> {
             widths,
             colored: view.colored,
         };
-        self.push_table_by(alloc, text, view, layout, each)
+        self.push_table_by(alloc, text, layout, each)
     }
 
     /// Adds the table of marks and below it the tasks that failed; adds nothing where no run is shown.

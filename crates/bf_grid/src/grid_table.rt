@@ -97,7 +97,7 @@ impl Table<'_> {
             ++ row_in self.entry task) }
     {
         let marks = self.columns.marks(alloc, task)?;
-        let tally = tally_in(alloc, self.columns.runs, task)?;
+        let tally = tally_in(self.columns.runs, task)?;
         let name = id_of(self.dag, task).as_bytes();
         self.layout
             .push_row(alloc, text, name, marks.as_slice(), tally)

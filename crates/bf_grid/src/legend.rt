@@ -33,12 +33,12 @@ fn meaning_of(mark: Mark) -> &'static str
 }
 
 /// Whether task number `task` has this mark in one of these runs.
-fn has_mark(alloc: Global, runs: &[&RunReport], mark: Mark, task: u32) -> Result<bool, OutOfMemory>
+fn has_mark(runs: &[&RunReport], mark: Mark, task: u32) -> Result<bool, OutOfMemory>
     ensures { IfOk result (λ has_it. has_it
         ≡ has_mark_in (map (λ run. run.now) runs.now) mark task) }
 {
     for run in runs {
-        if Mark::of(tally_at(alloc, run, task)?).severity() == mark.severity() {
+        if Mark::of(tally_at(run, task)?).severity() == mark.severity() {
             return Ok(true);
         }
     }
@@ -46,17 +46,12 @@ fn has_mark(alloc: Global, runs: &[&RunReport], mark: Mark, task: u32) -> Result
 }
 
 /// Whether one of these tasks has this mark in one of these runs.
-fn is_seen(
-    alloc: Global,
-    runs: &[&RunReport],
-    tasks: &[u32],
-    mark: Mark,
-) -> Result<bool, OutOfMemory>
+fn is_seen(runs: &[&RunReport], tasks: &[u32], mark: Mark) -> Result<bool, OutOfMemory>
     ensures { IfOk result (λ seen_it. seen_it
         ≡ is_seen_in (map (λ run. run.now) runs.now) tasks.now mark) }
 {
     for task in tasks {
-        if has_mark(alloc, runs, mark, *task)? {
+        if has_mark(runs, mark, *task)? {
             return Ok(true);
         }
     }
@@ -75,7 +70,7 @@ fn seen_among(
 {
     let mut found = Vec::new(alloc);
     for mark in marks {
-        if is_seen(alloc, runs, tasks, *mark)? {
+        if is_seen(runs, tasks, *mark)? {
             found.push(*mark)?;
         }
     }

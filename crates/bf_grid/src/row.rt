@@ -77,7 +77,7 @@ impl<'a> Columns<'a> {
     {
         let mut marks = Vec::with_capacity(alloc, self.count)?;
         for place in 0..self.count {
-            marks.push(mark_in(alloc, self.at(place), task)?)?;
+            marks.push(mark_in(self.at(place), task)?)?;
         }
         Ok(marks)
     }

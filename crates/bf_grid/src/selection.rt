@@ -12,7 +12,7 @@ use std::alloc::Global;
 
 /// Whether the view shows a run: it starts in the view's range and, where only failures are shown, something in it
 /// failed, is upstream_failed or has no status.
-fn is_shown_run(alloc: Global, view: &View, run: &RunReport) -> Result<bool, OutOfMemory>
+fn is_shown_run(view: &View, run: &RunReport) -> Result<bool, OutOfMemory>
     ensures { IfOk result (λ shown. shown ≡ is_shown_run_in view.now run.now) }
 {
     if !view.has_start(run.interval.start) {
@@ -21,7 +21,7 @@ fn is_shown_run(alloc: Global, view: &View, run: &RunReport) -> Result<bool, Out
     if !view.failed {
         return Ok(true);
     }
-    Ok(run_tally(alloc, run)?.is_bad())
+    Ok(run_tally(run)?.is_bad())
 }
 
 /// The runs, among these and in their order, that the view shows.
@@ -35,7 +35,7 @@ pub(crate) fn shown_runs<'a>(
 {
     let mut found = Vec::with_capacity(alloc, runs.len())?;
     for run in runs {
-        if is_shown_run(alloc, view, run)? {
+        if is_shown_run(view, run)? {
             found.push(run)?;
         }
     }
@@ -44,19 +44,14 @@ pub(crate) fn shown_runs<'a>(
 
 /// Whether the view shows a task beside these runs: any task or, where only failures are shown, one that failed, is
 /// upstream_failed or has no status in one of them.
-fn is_shown_task(
-    alloc: Global,
-    view: &View,
-    runs: &[&RunReport],
-    task: u32,
-) -> Result<bool, OutOfMemory>
+fn is_shown_task(view: &View, runs: &[&RunReport], task: u32) -> Result<bool, OutOfMemory>
     ensures { IfOk result (λ shown. shown
         ≡ is_shown_task_in view.now (map (λ run. run.now) runs.now) task) }
 {
     if !view.failed {
         return Ok(true);
     }
-    Ok(tally_in(alloc, runs, task)?.is_bad())
+    Ok(tally_in(runs, task)?.is_bad())
 }
 
 /// The tasks, among these and in their order, that the view shows beside these runs.
@@ -71,7 +66,7 @@ pub(crate) fn shown_tasks(
 {
     let mut found = Vec::with_capacity(alloc, tasks.len())?;
     for task in tasks {
-        if is_shown_task(alloc, view, runs, *task)? {
+        if is_shown_task(view, runs, *task)? {
             found.push(*task)?;
         }
     }
@@ -79,16 +74,12 @@ pub(crate) fn shown_tasks(
 }
 
 /// The tally of all these tasks over all these runs.
-pub(crate) fn total_in(
-    alloc: Global,
-    runs: &[&RunReport],
-    tasks: &[u32],
-) -> Result<Tally, OutOfMemory>
+pub(crate) fn total_in(runs: &[&RunReport], tasks: &[u32]) -> Result<Tally, OutOfMemory>
     ensures { IfOk result (λ total. total ≡ total_of (map (λ run. run.now) runs.now) tasks.now) }
 {
     let mut total = Tally::nothing();
     for task in tasks {
-        total = total.add(tally_in(alloc, runs, *task)?);
+        total = total.plus(tally_in(runs, *task)?);
     }
     Ok(total)
 }

@@ -100,7 +100,7 @@ pub(crate) fn push_left_out(
 }
 
 /// Adds the line, with its line feed, that a column stands for `each` runs and shows the worst of them.
-fn push_runs_a_column_line(
+fn push_runs_per_column_line(
     alloc: Global,
     text: &mut Vec<u8>,
     each: usize,
@@ -114,7 +114,7 @@ fn push_runs_a_column_line(
 }
 
 /// Adds the line that a column stands for `each` runs; adds nothing where that is 1 or 0.
-pub(crate) fn push_runs_a_column(
+pub(crate) fn push_runs_per_column(
     alloc: Global,
     text: &mut Vec<u8>,
     each: usize,
@@ -122,7 +122,7 @@ pub(crate) fn push_runs_a_column(
     ensures { OnOk result (text.new.items ≡ text.old.items ++ each_line each) }
 {
     if each > 1 {
-        return push_runs_a_column_line(alloc, text, each);
+        return push_runs_per_column_line(alloc, text, each);
     }
     Ok(())
 }

@@ -11,25 +11,25 @@ use Rattle.bf_command_line.specs.declared.forms.GraphAsked.{GraphAsked}
 use Rattle.bf_command_fault.specs.declared.fault.CommandFault.{CommandFault}
 use Rattle.bf_command_fault.specs.declared.fault.CommandFault.TheVariants.{OutOfMemory, CannotRead, Report as BadReport}
 
--- the graph file, and the zone file
+-- the graph file and, where one is named, the zone file are told to hold these bytes
 pub record AreHeld (files : Files) (asked : GraphAsked) (graph : List ℕ)
     (zone : Option (List ℕ)) : Type 0 where
   pub graph_held : IsHeld (files (string_bytes asked.graph)) graph
   pub zone_held : IsHeldIfNamed files (option_map string_bytes asked.zone_file) zone
 
--- so it is with whatever the graph file and the zone file are told to hold
+-- P holds of whatever the graph file and the zone file are told to hold
 abbrev pub OfFiles : Files → GraphAsked → (List ℕ → Option (List ℕ) → Type 0) → Type 0
 OfFiles files asked P =
     (graph : List ℕ) (zone : Option (List ℕ)) → AreHeld files asked graph zone → P graph zone
 
--- and with whatever the table is told to hold
+-- P holds of whatever the graph file, the zone file and the table are told to hold
 abbrev pub OfFilesAndTable : Files → GraphAsked → List ℕ
     → (List ℕ → Option (List ℕ) → List ℕ → Type 0) → Type 0
 OfFilesAndTable files asked path P =
     (graph table : List ℕ) (zone : Option (List ℕ)) → AreHeld files asked graph zone
     → IsHeld (files path) table → P graph zone table
 
--- so it is with whatever the graph file, the zone file, and a table where one is named are told to hold
+-- P holds of whatever the graph file, the zone file, and a table where one is named are told to hold
 abbrev pub OfFilesAndNamedTable : Files → GraphAsked → Option (List ℕ)
     → (List ℕ → Option (List ℕ) → Option (List ℕ) → Type 0) → Type 0
 OfFilesAndNamedTable files asked path P =
@@ -40,11 +40,11 @@ OfFilesAndNamedTable files asked path P =
 abbrev pub graph_paths : GraphAsked → List (List ℕ)
 graph_paths asked = string_bytes asked.graph ∷ named_paths (option_map string_bytes asked.zone_file)
 
--- and of the table behind them
+-- the paths of the graph file, of the zone file where one is named, and of the table, in the order in which they are read
 abbrev pub table_paths : GraphAsked → List ℕ → List (List ℕ)
 table_paths asked table = graph_paths asked ++ table ∷ []
 
--- and of the table and the seeds file behind them, where they are named
+-- the paths of the graph file, and of the zone file, the table and the seeds file where they are named, in that order
 abbrev pub clear_paths : GraphAsked → Option (List ℕ) → Option (List ℕ) → List (List ℕ)
 clear_paths asked table seeds = graph_paths asked ++ (named_paths table ++ named_paths seeds)
 

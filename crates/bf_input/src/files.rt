@@ -281,6 +281,7 @@ pub fn read_files_with_table<S: Source>(
         (AreReadable (S.file files.old) (table_paths asked (string_bytes table))) }
     ensures fault { IfErr result (IsReadingFault (S.file files.old)
         (table_paths asked (string_bytes table))) }
+    ensures stays { (p : List ℕ) → S.file files.new p ≡ S.file files.old p }
 {
     let graph = read_graph_files(alloc, asked, files)?;
     let table = read_table_bytes(alloc, table, files)?;

@@ -1,7 +1,7 @@
 //! What the words of a line mean: the files that it names, read, and its moments.
 //!
-//! A file that is too large, missing or no graph, table, report, journal or list of seeds is refused by the number that says
-//! so. A graph comes with the bytes of its zone file, if the line gives one.
+//! A file that can't be read is a fault, with its path; one that is too large is read one byte further than it may be long, so that
+//! its reader refuses it. Only a report is checked here. A graph comes with the bytes of its zone file, if the line gives one.
 #![tactic(auto)]
 
 mod files;

@@ -1,19 +1,37 @@
 -- What is lent to the workers of a backfill that goes on from a journal may be shared by threads.
-use denote.Param.Send.{IsSync, sendable, struct_sync, recorded_sync}
+use denote.Param.Send.{IsSend, IsSync, sendable, struct_sync, recorded_sync}
 use denote.RattleType.{RattleType}
 use denote.Ref.{NamedLft}
 use denote.Struct.Declared as declared
 use Rattle.std.proofs.Crossing.{crosses}
 use Rattle.std.proofs.MapsCrossing as maps
-use Rattle.bf_value.proofs.sequence.Sequence.TheSendSync as sequence
 use Rattle.bf_value.proofs.xval.Values.TheLaws.TheKnot as xval
 use Rattle.bf_plan.proofs.plan.Plan.TheSendSync as plan
+use Rattle.bf_xcom.specs.contracts.shared_given.SharedGiven as SharedGiven
+use Rattle.bf_xcom.specs.contracts.shared_value.SharedValue as SharedValue
+use Rattle.bf_xcom.specs.contracts.values.Given as Given
 use Rattle.bf_try.specs.contracts.ledger.Entry as Entry
 use Rattle.bf_try.specs.contracts.ledger.Ledger as Ledger
 use Rattle.bf_journal.specs.contracts.since.Since as Since
 
+-- `search` spends its steps on an entry as a whole, so it is shown part by part
+value_send : IsSend SharedValue.the_row
+value_send = search (sendable, crosses, xval.crosses) depth 40 fits 20000
+
+value : IsSync SharedValue.the_row
+value = search (sendable, crosses, xval.crosses) depth 40 fits 20000
+
+given_send : IsSend Given.the_row
+given_send = search (sendable, crosses, xval.crosses, value_send) depth 40 fits 20000
+
+given : IsSync Given.the_row
+given = search (sendable, crosses, xval.crosses, value) depth 40 fits 20000
+
+shared : IsSync SharedGiven.the_row
+shared = search (sendable, crosses, given_send, given) depth 40 fits 20000
+
 entry : IsSync Entry.the_row
-entry = search (sendable, crosses, xval.crosses, sequence.the_sync) depth 40 fits 20000
+entry = search (sendable, crosses, value, shared) depth 40 fits 20000
 
 pub ledger : IsSync Ledger.the_row
 ledger = search (sendable, crosses, maps.crosses, entry) depth 40 fits 20000

@@ -21,7 +21,7 @@ use Rattle.bf_journal.specs.Tells.{records_in, TellAll, TellsNone}
 abbrev pub entry_named : JobName × Entry → JobName → Option Entry
 entry_named try n = if eq_by_cmp name_cmp n try.0 then Some try.1 else None
 
--- the same, where its outcome fits
+-- the entry of a try, where it has the name and its outcome fits the plan
 abbrev pub entry_for : Dag → JobName × Entry → JobName → Option Entry
 entry_for dag try n = if fits_in dag try.0.task try.1.outcome then entry_named try n else None
 
@@ -95,7 +95,7 @@ refusal_number_of (BadRecord number) = Some 33
 refusal_number_of Mismatch = Some 43
 refusal_number_of OutOfMemory = None
 
--- the words
+-- why a journal is not read, as it is printed
 abbrev pub fault_text : JournalFault → List ℕ
 fault_text (BadRecord number) = codes "bad record: " ++ decimal number
 fault_text Mismatch = codes "journal mismatch"

@@ -46,5 +46,6 @@ head_value dag intervals seeds =
     ∷ list_of (map (task_value dag) dag.tasks)
     ∷ list_of (map interval_value intervals) ∷ []) ++ seed_fields seeds)
 
+-- the first line of a journal
 unfoldable pub head_text : Dag → List Interval → List ClearedTask → List ℕ
 head_text dag intervals seeds = json_of (head_value dag intervals seeds) ++ 10 ∷ []

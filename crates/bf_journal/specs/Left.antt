@@ -40,7 +40,7 @@ pub record IsPart (head held left : List ℕ) : Type 0 where
   pub count : ℕ
   pub is : (left ≡ take count held) ⊎ (left ≡ take count head)
 
--- the same, where a device tells it
+-- the device tells that there are left the first bytes of what it held, or of the head
 abbrev pub IsLeftPart : List ℕ → List ℕ → Option (List ℕ) → Option (List ℕ) → Type 0
 IsLeftPart head held old new =
     old ≡ Some held → (left : List ℕ) × (new ≡ Some left) × IsPart head held left

@@ -12,5 +12,6 @@ lines_after piece [] = []
 lines_after piece (byte ∷ bytes) =
     if byte == 10 then piece ∷ lines_after [] bytes else lines_after (piece ++ byte ∷ []) bytes
 
+-- the lines of bytes that have their line feed
 abbrev pub whole_lines : List ℕ → List (List ℕ)
 whole_lines bytes = lines_after [] bytes

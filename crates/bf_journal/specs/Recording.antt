@@ -45,6 +45,7 @@ stop_reason_of r =
     else (if r.memory_failed then Some OutOfMemory
     else (if is_enough r.most_failed r.failed_tries then Some EnoughFailed else None))
 
+-- no try is begun since a write failed
 abbrev pub is_write_failed : Option Stop → Bool
 is_write_failed (Some WriteFailed) = true
 is_write_failed (Some OutOfMemory) = false

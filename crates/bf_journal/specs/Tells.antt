@@ -26,7 +26,7 @@ pub record TellsText (dag : Dag) (intervals : List Interval) (text : List ℕ) (
   pub says : value_of_text 127 text ≡ Some value
   pub tells : Tells dag intervals value name entry
 
--- and the line is such a text
+-- the line is UTF-8, and as a text the record of this try
 abbrev pub TellsLine : Dag → List Interval → List ℕ → JobName → Entry → Type 0
 TellsLine dag intervals line name entry = IsUtf8 line × TellsText dag intervals line name entry
 

@@ -16,10 +16,9 @@ use crate::run::run_in;
 use bf_interval::Runs;
 use bf_plan::Plan;
 use bf_try::Entry;
-use bf_value::{JobName, Sequence};
-use bf_xcom::{Given, Outcome, SharedValue};
+use bf_value::JobName;
+use bf_xcom::{Outcome, SharedGiven, SharedValue};
 use itoa::Buffer;
-use std::alloc::Global;
 
 /// Answers whether a byte stands for itself inside a JSON text: it isn't a quote, a backslash or a control character.
 fn is_plain(byte: u8) -> bool
@@ -114,21 +113,13 @@ fn stamp_in(text: &[u8]) -> Option<(i64, i64, i64)>
     Some((number_in(start)?, number_in(end)?, number_in(code)?))
 }
 
-/// Reads a line that is the bare record of a try. None settles nothing: `told_try_in` then reads the line in full.
-pub(crate) fn bare_try_in(
-    alloc: Global,
-    plan: &Plan,
-    runs: &Runs,
-    line: &[u8],
-) -> Option<(JobName, Entry)>
+/// Reads a line that is the bare record of a try. None settles nothing: `read_record_line` then reads the line in full.
+pub(crate) fn bare_try_in(plan: &Plan, runs: &Runs, line: &[u8]) -> Option<(JobName, Entry)>
     ensures { IfSome result (λ t. TellsLine plan.now.dag runs.now line.now t.0 t.1) }
 {
     let (name, fields) = name_at_front(plan, runs, line)?;
     let (outcome, stamp) = bare_outcome_in(fields)?;
     let _numbers = stamp_in(stamp)?;
-    let given = Given {
-        item: None,
-        pulled: Sequence::from_vec(Vec::new(alloc)),
-    };
+    let given = SharedGiven::nothing();
     Some((name, Entry { given, outcome }))
 }

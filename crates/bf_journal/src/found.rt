@@ -25,7 +25,7 @@ pub struct Found {
 /// Judges a journal that doesn't begin with the head: no tries and no whole line where it is a cut-short beginning of
 /// the head, else `Mismatch`, since it is of another backfill.
 #[tactic(auto, using(crate::proofs::Heading::begins))]
-fn found_in_head(alloc: Global, head: &[u8], bytes: &[u8]) -> Result<Found, JournalFault>
+fn read_cut_head(alloc: Global, head: &[u8], bytes: &[u8]) -> Result<Found, JournalFault>
     ensures ok { IfOk result (λ f. IsCutHead head.now bytes.now f.whole (FinMap.get f.tries)) }
     ensures torn { IfOk result (λ f. f.torn ≡ length bytes.now) }
     ensures err { IfErr result (λ fault. (fault ≡ JournalFault.Mismatch)
@@ -60,7 +60,7 @@ pub fn read_journal(
     ensures refused { IfErr result (IsFault plan.now.dag runs.now head.now bytes.now) }
 {
     let Some(records) = behind(bytes, head) else {
-        return found_in_head(alloc, head, bytes);
+        return read_cut_head(alloc, head, bytes);
     };
     let Told { tries, torn } = tries_told_in(alloc, plan, runs, records)?;
     let tries = last_of(alloc, plan, tries)?;

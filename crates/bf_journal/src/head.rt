@@ -82,7 +82,7 @@ pub struct ClearedTask {
 }
 
 /// Makes the fields of a cleared task: its id, its run, and its map index, which is left out for None.
-fn seed_fields(
+fn fields_of_cleared_task(
     alloc: Global,
     task: Xval,
     run: Xval,
@@ -98,24 +98,24 @@ fn seed_fields(
 
 /// Makes a cleared task's entry in the head: its id, the start of its run and, where only one instance is cleared, its
 /// map index.
-fn value_of_seed(alloc: Global, seed: &ClearedTask) -> Result<Xval, OutOfMemory>
+fn value_of_cleared_task(alloc: Global, seed: &ClearedTask) -> Result<Xval, OutOfMemory>
     ensures { IfOk result (λ v. v ≡ seed_value seed.now) }
 {
     let task = text_value(alloc, seed.task.as_str())?;
     let run = Xval::Text(Text::new(seed.run.to_string(alloc)?));
-    let words = seed_fields(alloc, task, run, seed.index)?;
-    Ok(Xval::List(Values::new(words)))
+    let fields = fields_of_cleared_task(alloc, task, run, seed.index)?;
+    Ok(Xval::List(Values::new(fields)))
 }
 
 /// Makes the head's list of what is cleared, in the order of `seeds`.
-fn value_of_seeds(alloc: Global, seeds: &[ClearedTask]) -> Result<Xval, OutOfMemory>
+fn value_of_cleared_tasks(alloc: Global, seeds: &[ClearedTask]) -> Result<Xval, OutOfMemory>
     ensures { IfOk result (λ v. v ≡ list_of (map seed_value seeds.now)) }
 {
-    let mut words = Vec::new(alloc);
+    let mut entries = Vec::new(alloc);
     for seed in seeds {
-        words.push(value_of_seed(alloc, seed)?)?;
+        entries.push(value_of_cleared_task(alloc, seed)?)?;
     }
-    Ok(Xval::List(Values::new(words)))
+    Ok(Xval::List(Values::new(entries)))
 }
 
 /// Makes the head as one value: the graph, its runs and, unless `seeds` is empty, what is cleared.
@@ -133,7 +133,7 @@ fn value_of_head(
     let intervals = value_of_intervals(alloc, runs)?;
     let mut fields = vec![in alloc; words, Xval::Int(VERSION), id, tasks, intervals]?;
     if !seeds.is_empty() {
-        fields.push(value_of_seeds(alloc, seeds)?)?;
+        fields.push(value_of_cleared_tasks(alloc, seeds)?)?;
     }
     Ok(Xval::List(Values::new(fields)))
 }

@@ -1,5 +1,5 @@
 //! What is kept of tries of which some have one name: the last.
-ghost use Rattle.std.specs.Prelude.{◌≡◌, ◌<◌, length, IfOk, OnOk};
+ghost use Rattle.std.specs.Prelude.{◌≡◌, ◌<◌, length, IfOk, OnErr, OnOk};
 ghost use Rattle.std.specs.Option.{option_or};
 ghost use Rattle.std.specs.FinMap;
 ghost use Rattle.bf_value.specs.declared.name.JobName.{JobName};
@@ -11,12 +11,13 @@ use bf_try::{Entry, Ledger, NoteFault, fits};
 use bf_value::{JobName, OutOfMemory};
 use std::alloc::Global;
 
-/// Adds a try to a ledger; does nothing where the ledger already has one of that name.
+/// Adds a try to a ledger; does nothing where the ledger already has one of that name. `Err` changes nothing.
 #[tactic(auto, using(crate::proofs::Lasting::noted, crate::proofs::Lasting::not_noted))]
-fn note_if_unnoted(ledger: &mut Ledger, name: JobName, entry: Entry) -> Result<(), OutOfMemory>
-    ensures { OnOk result ((n : JobName) →
+fn note_if_new(ledger: &mut Ledger, name: JobName, entry: Entry) -> Result<(), OutOfMemory>
+    ensures ok { OnOk result ((n : JobName) →
         FinMap.get ledger.new n
         ≡ option_or (FinMap.get ledger.old n) (entry_named (name, entry) n)) }
+    ensures err { OnErr result (ledger.new ≡ ledger.old) }
 {
     match ledger.note(name, entry) {
         Ok(()) => Ok(()),
@@ -26,7 +27,7 @@ fn note_if_unnoted(ledger: &mut Ledger, name: JobName, entry: Entry) -> Result<(
 }
 
 /// Adds a try to a ledger that already has the later ones; does nothing where one of them has its name, or its outcome
-/// doesn't fit the plan.
+/// doesn't fit the plan. `Err` changes nothing.
 fn note_earlier_fit(
     ledger: &mut Ledger,
     plan: &Plan,
@@ -34,14 +35,15 @@ fn note_earlier_fit(
     entry: Entry,
 ) -> Result<(), OutOfMemory>
     requires { name.task < length plan.now.dag.tasks }
-    ensures { OnOk result ((n : JobName) →
+    ensures ok { OnOk result ((n : JobName) →
         FinMap.get ledger.new n ≡ option_or (FinMap.get ledger.old n)
         (entry_for plan.now.dag (name, entry) n)) }
+    ensures err { OnErr result (ledger.new ≡ ledger.old) }
 {
     if !fits(plan, name.task, &entry.outcome) {
         return Ok(());
     }
-    note_if_unnoted(ledger, name, entry)
+    note_if_new(ledger, name, entry)
 }
 
 /// Makes a ledger of these tries, which are in the order of their records: of each name the last whose outcome fits the

@@ -79,8 +79,7 @@ where
         ensures { result ≡ record {
           runner = runner.entry.now;
           dag = plan.entry.now.dag;
-          intervals
-              = runs.entry.now;
+          intervals = runs.entry.now;
         } }
     {
         Recording {
@@ -164,7 +163,7 @@ where
 }
 
 /// Gives the number of the signal that ended a try's program; None where no detail names one. No contract covers this.
-fn signal_in(detail: &Option<Detail>) -> Option<i32> {
+fn signal_in(detail: Option<&Detail>) -> Option<i32> {
     match detail {
         Some(Detail::Signal(number)) => Some(*number),
         Some(Detail::NotStarted(_)) | None => None,
@@ -193,7 +192,7 @@ where
         let stamp = Stamp {
             start,
             end: milliseconds_since_1970(self.rt),
-            signal: signal_in(&detail),
+            signal: signal_in(detail.as_ref()),
         };
         if self.record(&done, stamp).is_err() {
             self.note_memory_failure();

@@ -52,18 +52,18 @@ fn retries_of(dag: &Dag, task: u32) -> u32
 
 /// Answers whether the ledger has the try numbered `attempt` of this name's instance, and that one succeeded or was
 /// skipped.
-fn passed_at(tries: &Ledger, name: JobName, attempt: u32) -> bool
+fn has_passed_at(tries: &Ledger, name: JobName, attempt: u32) -> bool
     ensures { result ≡ has_passed (FinMap.get tries.now (with_attempt name attempt)) }
 {
     has_passed_in(tries.get(JobName { attempt, ..name }))
 }
 
 /// Answers whether the ledger has a try of this name's instance that succeeded or was skipped.
-fn some_passed_in(plan: &Plan, tries: &Ledger, name: JobName) -> bool
+fn instance_has_passed(plan: &Plan, tries: &Ledger, name: JobName) -> bool
     ensures { result ≡ some_passed plan.now.dag (FinMap.get tries.now) name }
 {
     let last = retries_of(plan.dag(), name.task) + 1;
-    (1..last + 1).any(|attempt| passed_at(tries, name, attempt))
+    (1..last + 1).any(|attempt| has_passed_at(tries, name, attempt))
 }
 
 impl<'a> WithoutFailed<'a> {
@@ -75,7 +75,7 @@ impl<'a> WithoutFailed<'a> {
             ≡ without_failed self.now.plan.now.dag (FinMap.get self.now.tries.now) name }
     {
         let entry = self.tries.get(name);
-        if has_failed_in(entry) && !some_passed_in(self.plan, self.tries, name) {
+        if has_failed_in(entry) && !instance_has_passed(self.plan, self.tries, name) {
             return None;
         }
         entry

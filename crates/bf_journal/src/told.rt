@@ -5,7 +5,7 @@ ghost use Rattle.bf_journal.specs.inner.Found.{IsFaultBehind};
 
 use crate::fault::JournalFault;
 use crate::lines::first_line;
-use crate::tried::told_try_in;
+use crate::tried::read_record_line;
 use bf_interval::Runs;
 use bf_plan::Plan;
 use bf_try::Entry;
@@ -36,7 +36,7 @@ pub(crate) fn tries_told_in(
     let mut tries = Vec::new(alloc);
     let mut rest = bytes;
     while let Some((line, more)) = first_line(rest) {
-        match told_try_in(alloc, plan, runs, line)? {
+        match read_record_line(alloc, plan, runs, line)? {
             Some(tried) => tries.push(tried)?,
             None => return Err(JournalFault::BadRecord(tries.len() as u64 + 2)),
         }

@@ -14,7 +14,7 @@ use bf_interval::Runs;
 use bf_plan::Plan;
 use bf_try::Entry;
 use bf_value::{JobName, OutOfMemory, Sequence, Xval, read_text};
-use bf_xcom::{Given, Outcome, SharedValue};
+use bf_xcom::{Given, Outcome, SharedGiven, SharedValue};
 use std::alloc::Global;
 
 /// How many fields a record has. The last, its stamp, isn't read.
@@ -64,13 +64,13 @@ fn entry_in(alloc: Global, fields: &[Xval]) -> Result<Option<Entry>, OutOfMemory
         return Ok(None);
     };
     let pulled = Sequence::from_vec(pulled);
-    let given = Given { item, pulled };
+    let given = SharedGiven::new(alloc, Given { item, pulled })?;
     Ok(Some(Entry { given, outcome }))
 }
 
 /// Reads the try that a record's fields are of; None where there aren't nine, or they are of no try of this plan and
 /// its runs.
-fn told_try_of(
+fn read_record_fields(
     alloc: Global,
     plan: &Plan,
     runs: &Runs,
@@ -93,7 +93,7 @@ fn told_try_of(
 }
 
 /// Reads the try that a record's JSON text is of; None where it is of no try of this plan and its runs.
-fn told_try_in_text(
+fn read_record_text(
     alloc: Global,
     plan: &Plan,
     runs: &Runs,
@@ -102,14 +102,14 @@ fn told_try_in_text(
     ensures { IfOk result (IsFound (λ t. TellsText plan.now.dag runs.now text.now t.0 t.1)) }
 {
     match read_text(alloc, text, DEEPEST_RECORD)? {
-        Some(Xval::List(fields)) => told_try_of(alloc, plan, runs, fields.as_slice()),
+        Some(Xval::List(fields)) => read_record_fields(alloc, plan, runs, fields.as_slice()),
         _ => Ok(None),
     }
 }
 
 /// Reads the try that a journal's line, without its line feed, is the record of; None where it is of no try of this
 /// plan and its runs.
-pub(crate) fn told_try_in(
+pub(crate) fn read_record_line(
     alloc: Global,
     plan: &Plan,
     runs: &Runs,
@@ -117,11 +117,11 @@ pub(crate) fn told_try_in(
 ) -> Result<Option<(JobName, Entry)>, OutOfMemory>
     ensures { IfOk result (IsFound (λ t. TellsLine plan.now.dag runs.now line.now t.0 t.1)) }
 {
-    if let Some(tried) = bare_try_in(alloc, plan, runs, line) {
+    if let Some(tried) = bare_try_in(plan, runs, line) {
         return Ok(Some(tried));
     }
     match std::str::from_utf8(line) {
-        Ok(text) => told_try_in_text(alloc, plan, runs, text),
+        Ok(text) => read_record_text(alloc, plan, runs, text),
         Err(_) => Ok(None),
     }
 }

@@ -5,12 +5,13 @@ use bf_value::OutOfMemory;
 use std::alloc::Global;
 
 /// A runner that answers kept tries itself: a kept try that is given the same again ends as it did, and `runner` makes
-/// every other.
+/// every other. Where `runner` answers `at_once`, as a table does, no worker need make its tries.
 #[derive(Drop)]
 pub struct Keeping<'a, K, R> {
     pub alloc: Global,
     pub kept: &'a K,
     pub runner: &'a R,
+    pub at_once: bool,
 }
 
 impl<'a, K: KeptTries, R: TaskRunner> TaskRunner for Keeping<'a, K, R> {

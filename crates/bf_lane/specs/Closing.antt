@@ -7,7 +7,7 @@ use Rattle.bf_lane.specs.declared.messages.Job.TheVariants.{Stop}
 use Rattle.bf_lane.specs.Lanes.{FourLists, IsClosed}
 use Rattle.bf_lane.specs.Open.{Scheduled, StartsWith}
 
--- the four lists of a lane, from what was scheduled
+-- what a lane that scheduled this shows once it is closed
 pub record Closes (may_answer : JobName → Given → Raw → Type 0) (may_give_up : JobName → Given
     → Type 0) (l : Scheduled) (c : FourLists) : Type 0 where
   pub submitted : c.submitted ≡ l.submitted ++ Stop ∷ []

@@ -6,7 +6,6 @@ use crate::phrases::push;
 use crate::tally::{Tally, tally_at};
 use bf_report::RunReport;
 use bf_value::OutOfMemory;
-use std::alloc::Global;
 
 /// What became of a task in a run or in several, from the least bad to the worst.
 #[derive(Clone, Copy, Debug, PartialEq, Eq)]
@@ -176,12 +175,12 @@ pub fn push_marks(text: &mut Vec<u8>, colored: bool, marks: &[Mark]) -> Result<(
 
 /// The worst mark of task number `task` in these runs; `Skipped` where there are no runs. In a run without such a task
 /// it is `NoStatus`.
-pub fn mark_in(alloc: Global, runs: &[&RunReport], task: u32) -> Result<Mark, OutOfMemory>
+pub fn mark_in(runs: &[&RunReport], task: u32) -> Result<Mark, OutOfMemory>
     ensures { IfOk result (λ mark. mark ≡ column_mark task (map (λ run. run.now) runs.now)) }
 {
     let mut worst = Mark::Skipped;
     for run in runs {
-        worst = worst.worse(Mark::of(tally_at(alloc, run, task)?));
+        worst = worst.worse(Mark::of(tally_at(run, task)?));
     }
     Ok(worst)
 }

@@ -22,7 +22,7 @@ fn has_no_upstreams(dag: &Dag, task: u32) -> bool
 fn is_among(upstreams: &[u32], task: u32) -> bool
     ensures { result ≡ list_any (λ upstream. upstream == task) upstreams.now }
 {
-    upstreams.iter().any(|upstream| *upstream == task)
+    upstreams.contains(&task)
 }
 
 /// Whether the order of rows already has task number `task`, by its flag in `standing`; false where it has no flag.

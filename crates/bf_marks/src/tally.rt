@@ -5,7 +5,6 @@ ghost use Rattle.bf_marks.specs.Tallies.{add, instance_tally, is_bad, nothing, o
 use bf_report::{InstanceReport, RunReport, TaskReport};
 use bf_value::OutOfMemory;
 use bf_xcom::{Outcome, RunState, TaskResult};
-use std::alloc::Global;
 
 /// How many instances of tasks in runs have each state, where a task that didn't run counts as one instance. `retried`
 /// says whether one of them took more than one try.
@@ -60,7 +59,7 @@ impl Tally {
     }
 
     /// The sums of both tallies; a count that would exceed 2^64 - 1 stays at that.
-    pub fn add(self, other: Tally) -> Tally
+    pub fn plus(self, other: Tally) -> Tally
         ensures { result ≡ add self other }
     {
         Tally {
@@ -82,26 +81,26 @@ impl Tally {
 }
 
 /// The tally of one instance of a report.
-fn tally_of_instance(alloc: Global, instance: &InstanceReport) -> Result<Tally, OutOfMemory>
+fn tally_of_instance(instance: &InstanceReport) -> Result<Tally, OutOfMemory>
     ensures { IfOk result (λ tally. tally ≡ instance_tally instance.now) }
 {
-    let ended = instance.result(alloc)?;
+    let ended = instance.result()?;
     Ok(Tally::of_ended(&ended))
 }
 
 /// The tally of these instances of a report.
-fn tally_of_instances(alloc: Global, instances: &[InstanceReport]) -> Result<Tally, OutOfMemory>
+fn tally_of_instances(instances: &[InstanceReport]) -> Result<Tally, OutOfMemory>
     ensures { IfOk result (λ tally. tally ≡ sum (map instance_tally instances.now)) }
 {
     let mut tally = Tally::nothing();
     for instance in instances {
-        tally = tally.add(tally_of_instance(alloc, instance)?);
+        tally = tally.plus(tally_of_instance(instance)?);
     }
     Ok(tally)
 }
 
 /// The tally of a task in a run: over its instances where it ran, else of its state, counted as one instance.
-fn tally_of_task(alloc: Global, task: &TaskReport) -> Result<Tally, OutOfMemory>
+fn tally_of_task(task: &TaskReport) -> Result<Tally, OutOfMemory>
     ensures { IfOk result (λ tally. tally ≡ task_tally task.now) }
 {
     let nothing = Tally::nothing();
@@ -118,17 +117,17 @@ fn tally_of_task(alloc: Global, task: &TaskReport) -> Result<Tally, OutOfMemory>
             upstream_failed: 1,
             ..nothing
         }),
-        TaskReport::Ran(instance) => tally_of_instance(alloc, instance),
-        TaskReport::Mapped(instances) => tally_of_instances(alloc, instances.as_slice()),
+        TaskReport::Ran(instance) => tally_of_instance(instance),
+        TaskReport::Mapped(instances) => tally_of_instances(instances.as_slice()),
     }
 }
 
 /// The tally of task number `task` in a run; one no_status where the run has no such task.
-pub fn tally_at(alloc: Global, run: &RunReport, task: u32) -> Result<Tally, OutOfMemory>
+pub fn tally_at(run: &RunReport, task: u32) -> Result<Tally, OutOfMemory>
     ensures { IfOk result (λ tally. tally ≡ tally_in task run.now) }
 {
     match run.tasks.get(task as usize) {
-        Some(task) => tally_of_task(alloc, task),
+        Some(task) => tally_of_task(task),
         None => Ok(Tally {
             no_status: 1,
             ..Tally::nothing()
@@ -137,12 +136,12 @@ pub fn tally_at(alloc: Global, run: &RunReport, task: u32) -> Result<Tally, OutO
 }
 
 /// The tally of task number `task` over all these runs; a run without such a task counts as one no_status.
-pub fn tally_in(alloc: Global, runs: &[&RunReport], task: u32) -> Result<Tally, OutOfMemory>
+pub fn tally_in(runs: &[&RunReport], task: u32) -> Result<Tally, OutOfMemory>
     ensures { IfOk result (λ tally. tally ≡ runs_tally task (map (λ run. run.now) runs.now)) }
 {
     let mut tally = Tally::nothing();
     for run in runs {
-        tally = tally.add(tally_at(alloc, run, task)?);
+        tally = tally.plus(tally_at(run, task)?);
     }
     Ok(tally)
 }
@@ -170,7 +169,7 @@ pub fn tally_of_run_states(runs: &[RunReport]) -> Tally
 {
     let mut tally = Tally::nothing();
     for run in runs {
-        tally = tally.add(state_tally(run.state));
+        tally = tally.plus(state_tally(run.state));
     }
     tally
 }
@@ -181,18 +180,18 @@ pub fn tally_of_shown_states(runs: &[&RunReport]) -> Tally
 {
     let mut tally = Tally::nothing();
     for run in runs {
-        tally = tally.add(state_tally(run.state));
+        tally = tally.plus(state_tally(run.state));
     }
     tally
 }
 
 /// The tally of all tasks in a run.
-pub fn run_tally(alloc: Global, run: &RunReport) -> Result<Tally, OutOfMemory>
+pub fn run_tally(run: &RunReport) -> Result<Tally, OutOfMemory>
     ensures { IfOk result (λ tally. tally ≡ run_tally_of run.now) }
 {
     let mut tally = Tally::nothing();
     for task in run.tasks.as_slice() {
-        tally = tally.add(tally_of_task(alloc, task)?);
+        tally = tally.plus(tally_of_task(task)?);
     }
     Ok(tally)
 }

@@ -12,14 +12,14 @@ use Rattle.bf_planning.specs.declared.range.RunRange.{RunRange}
 use Rattle.bf_planning.specs.declared.range.Starts.{Starts}
 use Rattle.bf_planning.specs.declared.range.Starts.TheVariants.{Between, On}
 
--- those that start there, or the first fault that this has
+-- the data intervals that start there, or the first fault
 abbrev pub IsStartsAnswer : CronSpec → TimeZone → Starts → Result (List Interval) IntervalFault
     → Type 0
 IsStartsAnswer schedule zone (Between range) answer =
     IsAnswer schedule zone range.from.nanosecond range.to.nanosecond answer
 IsStartsAnswer schedule zone (On days) answer = IsAnswerOn schedule zone days answer
 
--- and where there have to be some and are none, that is refused
+-- the data intervals of the range, or its first fault; where there have to be some and are none, that is refused
 abbrev pub IsRangeAnswer : CronSpec → TimeZone → RunRange → Result (List Interval) RangeFault
     → Type 0
 IsRangeAnswer schedule zone range (Ok found) =

@@ -47,6 +47,7 @@ pub record LaunchingOf : Type 0 where
   pub logs : Option (List ℕ)
   pub clocks : List ℤ
 
+-- how tries are launched, as contracts see it
 abbrev pub launching_of : Launching → LaunchingOf
 launching_of launching = record {
   launcher = option_map (λ path. path.now) launching.launcher;
@@ -54,6 +55,7 @@ launching_of launching = record {
   clocks = map (λ clock. clock.at.nanosecond) launching.clocks.now;
 }
 
+-- the words behind the launcher's path, where there is one
 abbrev pub behind : Option (List ℕ) → List (List ℕ) → List (List ℕ)
 behind None words = words
 behind (Some path) words = path ∷ words
@@ -76,7 +78,7 @@ launched_for launching try =
 abbrev pub through : LaunchingOf → (Launched → Raw → Type 0) → Tried → Raw → Type 0
 through launching may_hear try raw = may_hear (launched_for launching try) raw
 
--- and whether its program may be lost
+-- whether the program of a try may be lost, by whether what is started for it may
 abbrev pub lost_through : LaunchingOf → (Launched → Type 0) → Tried → Type 0
 lost_through launching may_lose try = may_lose (launched_for launching try)
 
@@ -101,7 +103,7 @@ pub record HoldsOfWords (P : Tried
     run = name.run;
   })
 
--- the same, where there are such a task and such a run, and else the other
+-- this holds of what the try's command comes to, where its task and run are there; else the other does
 abbrev pub HoldsOfTry : Type 0 → (Tried → Type 0) → Dag → JobName → Given → Option Task
     → Option Interval → Type 0
 HoldsOfTry other P dag name given (Some task) (Some interval) =

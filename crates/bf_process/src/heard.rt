@@ -1,5 +1,5 @@
 //! What is heard of a program.
-ghost use Rattle.std.specs.Prelude.{◌≡◌};
+ghost use Rattle.std.specs.Prelude.{◌≡◌, None};
 
 use bf_failure::Detail;
 use bf_try::Raw;
@@ -14,7 +14,8 @@ pub struct Heard {
 impl Heard {
     /// Makes what was heard of a program of which only the raw answer is known.
     pub(crate) fn without_detail(raw: Raw) -> Heard
-        ensures { result.raw ≡ raw }
+        ensures raw { result.raw ≡ raw }
+        ensures detail { result.detail ≡ None }
     {
         Heard { raw, detail: None }
     }

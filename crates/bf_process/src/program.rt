@@ -88,7 +88,7 @@ fn add_environment(
 }
 
 /// Makes the command that starts a program with these arguments, in this process's folder and environment, to which the
-/// try's variables are added. Its standard error goes to `err`, or to that of this process for None.
+/// try's variables are added. Its standard input is empty, its standard output a pipe; its standard error goes to `err`, or to that of this process for None.
 fn command_of(
     alloc: Global,
     program: &str,

@@ -47,7 +47,8 @@ impl Starter for HostRuntime {
     ghost may_lose = { λ _ launched. Unit {0} };
 
     /// Starts a program of this machine. Where a log can't be made, notes that in the setting's `log_faults`, starts
-    /// nothing and gives `GaveUp`. Without logs the program shares this process's standard error.
+    /// nothing and gives `GaveUp`. Where the program couldn't be started, writes why to the log of its standard error.
+    /// Without logs the program shares this process's standard error.
     fn start(
         &self,
         alloc: Global,

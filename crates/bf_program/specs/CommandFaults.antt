@@ -43,7 +43,7 @@ IsFault may_lose files machine (Answers path) fault = IsLoneFault files (string_
 IsFault may_lose files machine (Schema format) fault = IsDeviceFault fault
 IsFault may_lose files machine (Completions shell) fault = IsDeviceFault fault
 
--- so it is where a report goes to standard output; and where it goes to a file, its device isn't told of, but that the path's file
+-- the fault is the command's own where its report goes to standard output; and where it goes to a file, its device isn't told of, but that the path's file
 -- can't be replaced, and then a call of the folder or of the new file has failed; or so it is with the journal's
 abbrev pub IsFaultBy : Option (List ℕ) → Type 0 → Losing → Files → Machine → Asked → CommandFault
     → Type 0
@@ -74,7 +74,7 @@ pub record IsFaulted (may_hear : Hearing) (may_lose : Losing) (canvas : Canvas) 
   pub left : LeavesBy (out_of line) Halted (λ text. (status : Status)
       × IsAnswer may_hear canvas files machine line.command text status) before after fault
 
--- so it is, or memory was wanting before anything was written
+-- the fault is one of the line that was found, or memory was wanting before anything was written
 abbrev pub MayBeFaulted : Hearing → Losing → Canvas → Files → Machine → Option (Text × List Row)
     → Type 0 → Type 0 → Outputs → Outputs → CommandFault → Type 0
 MayBeFaulted may_hear may_lose canvas files machine matched Halted HasFailed before after

@@ -36,7 +36,7 @@ first_letter_of instances =
     letter_by_flags_of (any_letter (byte "f") instances) (any_letter (byte "r") instances)
     (any_letter (byte "s") instances)
 
--- the same of an expanded task, in upper case
+-- the letter of an expanded task, by the first of its instances' letters, in upper case
 abbrev pub uppercase_letter_of : ℕ → ℕ
 uppercase_letter_of first =
     if first == byte "f" then byte "F"

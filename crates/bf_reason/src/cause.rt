@@ -58,15 +58,15 @@ pub fn counts_at(settled: &[Settled<'_>], task: u32) -> Counts
     }
 }
 
-/// How many instances of these upstreams, at most 20,000, are in each state; an upstream that `settled` lacks counts as
-/// one blocked instance.
-pub fn counts_of_upstreams(settled: &[Settled<'_>], upstreams: &[u32]) -> Counts
-    requires { length upstreams.now ≤ 20_000 }
-    ensures { result ≡ counts_over (seen_among settled.now) upstreams.now }
+/// How many instances of these tasks, at most 20,000, are in each state; a task that `settled` lacks counts as one
+/// blocked instance.
+pub fn counts_of_tasks(settled: &[Settled<'_>], tasks: &[u32]) -> Counts
+    requires { length tasks.now ≤ 20_000 }
+    ensures { result ≡ counts_over (seen_among settled.now) tasks.now }
 {
     let mut counts = Counts::NONE;
-    for upstream in upstreams {
-        counts = counts.plus(counts_at(settled, *upstream));
+    for task in tasks {
+        counts = counts.plus(counts_at(settled, *task));
     }
     counts
 }
@@ -360,7 +360,7 @@ pub fn cause_at(
     if has_blocked_branch(plan, settled, upstreams) {
         return StateCause::BranchIsBlocked;
     }
-    let counts = counts_of_upstreams(settled, upstreams);
+    let counts = counts_of_tasks(settled, upstreams);
     let verdict = verdict(decided.rule, &counts);
     cause_by_verdict(plan.dag(), run, settled, before, task, verdict)
 }

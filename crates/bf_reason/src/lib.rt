@@ -10,8 +10,8 @@ mod letter;
 mod settled;
 
 pub use cause::{
-    StateCause, cause_at, counts_at, counts_of_upstreams, is_blocked, is_blocked_branch,
-    is_expanded, is_skipping_branch,
+    StateCause, cause_at, counts_at, counts_of_tasks, is_blocked, is_blocked_branch, is_expanded,
+    is_skipping_branch,
 };
 pub use laws::{
     digits_tell_what_does_not_follow, letters_tell_the_states, own_reports_have_no_digit,

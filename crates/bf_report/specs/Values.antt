@@ -17,7 +17,7 @@ abbrev pub IsSoundValue : Option Xval → Type 0
 IsSoundValue None = Unit {0}
 IsSoundValue (Some value) = IsSound (plain_of value)
 
--- so it is with what was pushed
+-- what was pushed is sound, where something was
 abbrev pub IsSoundOutcome : Outcome → Type 0
 IsSoundOutcome (Success value) = IsSoundValue value
 IsSoundOutcome Failed = Unit {0}
@@ -26,7 +26,7 @@ IsSoundOutcome Skipped = Unit {0}
 abbrev pub AreSoundPulls : List Pull → Type 0
 AreSoundPulls pulls = AllByRecursion (λ pull. IsSoundValue pull.value) pulls
 
--- so it is with what was pushed, the item, and what was pulled
+-- what was pushed, the item and what was pulled are sound
 pub record IsSoundInstance (instance : InstanceReport) : Type 0 where
   pub outcome : IsSoundOutcome instance.result.outcome
   pub item : IsSoundValue instance.item
@@ -48,5 +48,6 @@ AreSoundTasks tasks = AllByRecursion IsSoundTask tasks
 abbrev pub AreSoundRuns : List RunReport → Type 0
 AreSoundRuns runs = AllByRecursion (λ run. AreSoundTasks run.tasks) runs
 
+-- all values in the report are sound
 abbrev pub HasSoundValues : Report → Type 0
 HasSoundValues report = AreSoundRuns report.runs

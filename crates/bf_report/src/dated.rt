@@ -144,17 +144,19 @@ fn run_reports(
 
 /// Makes the report, of version 2, of an ended backfill over these runs. Each instance has the result of its last try,
 /// its item, and what it pulled, under the id of the task that it was pulled from.
-pub fn report_of(alloc: Global, runs: &Runs, ended: &Ended<'_>) -> Result<Report, OutOfMemory>
-    requires { length runs.now ≡ ended.now.runs }
-    ensures dated { IfOk result (IsDated ended.now.dag runs.now (entry_in ended.now.state.ledger)) }
+pub fn report_of(alloc: Global, runs: &Runs, ended: Ended<'_>) -> Result<Report, OutOfMemory>
+    requires { length runs.now ≡ ended.runs }
+    ensures dated { IfOk result (IsDated ended.entry.dag runs.now
+        (entry_in ended.entry.state.ledger)) }
     ensures sound { IfOk result HasSoundValues }
 {
     let dag = ended.plan().dag();
     let intervals = runs.intervals();
+    let (state, run_states) = ended.into_state();
     Ok(Report {
         version: Version::Two,
         dag_id: dag.id.copy(alloc)?,
         tasks: shown_ids(alloc, dag, intervals)?,
-        runs: run_reports(alloc, dag, intervals, ended.state(), ended.run_states())?,
+        runs: run_reports(alloc, dag, intervals, &state, run_states.as_slice())?,
     })
 }

@@ -1,5 +1,5 @@
 //! The reports of instances.
-ghost use Rattle.std.specs.Prelude.{◌≡◌, ◌<◌, All, length, IfOk, IfSome};
+ghost use Rattle.std.specs.Prelude.{◌≡◌, ◌<◌, All, length, IfOk, IfSome, option_copied};
 ghost use Rattle.std.specs.List.{filter_map};
 ghost use Rattle.bf_plan.specs.Plans.{task_of};
 ghost use Rattle.bf_plan.specs.Sound.{IsSound};
@@ -22,27 +22,27 @@ fn outcome_is_sound(outcome: &Outcome)
     }
 }
 
-/// Gives the result of an instance whose last try, numbered `tries`, ended with this outcome. The outcome is copied.
-fn result_of(alloc: Global, outcome: &Outcome, tries: u32) -> Result<TaskResult, OutOfMemory>
+/// Gives the result of an instance whose last try, numbered `tries`, ended with this outcome, whose value is shared.
+fn result_of(outcome: &Outcome, tries: u32) -> Result<TaskResult, OutOfMemory>
     ensures result { IfOk result (λ r. r ≡ record { outcome = outcome.now; tries = tries }) }
     ensures sound { IfOk result (λ r. IsSoundOutcome r.outcome) }
 {
     outcome_is_sound(outcome);
     Ok(TaskResult {
-        outcome: outcome.copy(alloc)?,
+        outcome: outcome.share()?,
         tries,
     })
 }
 
 /// Copies a value, if there is one.
-fn copy_of(alloc: Global, value: &Option<Xval>) -> Result<Option<Xval>, OutOfMemory>
-    ensures value { IfOk result (λ v. v ≡ value.now) }
+fn copy_of(alloc: Global, value: Option<&Xval>) -> Result<Option<Xval>, OutOfMemory>
+    ensures value { IfOk result (λ v. v ≡ option_copied value.entry) }
     ensures sound { IfOk result IsSoundValue }
 {
     if let Some(value) = value {
         value.value_is_sound();
     }
-    copy_option(alloc, value.as_ref())
+    copy_option(alloc, value)
 }
 
 /// Gives the same value or nothing, sharing its memory rather than copying it. Contracts don't see the sharing.
@@ -105,9 +105,9 @@ fn instance_report(
     let (tasks, given) = (dag.task(task).pulls.as_slice(), &instance.given);
     Ok(Some(InstanceReport::new(
         alloc,
-        result_of(alloc, outcome, instance.attempt)?,
-        copy_of(alloc, &given.item)?,
-        pulls_of(alloc, dag, tasks, given.pulled.as_slice())?,
+        result_of(outcome, instance.attempt)?,
+        copy_of(alloc, given.item())?,
+        pulls_of(alloc, dag, tasks, given.pulled())?,
     )?))
 }
 

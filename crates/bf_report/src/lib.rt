@@ -32,5 +32,6 @@ mod writing;
 
 pub use dated::report_of;
 pub use laws::alike_ledgers_report_alike;
+pub use lines::run_state_word;
 pub use report::{InstanceReport, Pull, Report, RunReport, TaskReport, Version};
 pub use writing::write_report;

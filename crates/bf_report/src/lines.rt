@@ -89,7 +89,7 @@ fn push_given(
 }
 
 /// Adds all lines of the only instance of the task `id`, which isn't expanded: its map index is -1.
-fn push_unmapped(
+fn push_only_instance(
     alloc: Global,
     text: &mut String,
     id: &str,
@@ -158,7 +158,7 @@ fn push_task(
         TaskReport::NoStatus => push_untried(text, id, "no_status"),
         TaskReport::Skipped => push_untried(text, id, "skipped"),
         TaskReport::UpstreamFailed => push_untried(text, id, "upstream_failed"),
-        TaskReport::Ran(instance) => push_unmapped(alloc, text, id, instance),
+        TaskReport::Ran(instance) => push_only_instance(alloc, text, id, instance),
         TaskReport::Mapped(instances) => push_mapped(alloc, text, id, instances.as_slice()),
     }
 }
@@ -180,7 +180,7 @@ fn push_tasks(
 }
 
 /// Gives the word for a run's state, `success` or `failed`.
-fn run_state_word(state: RunState) -> &'static str
+pub fn run_state_word(state: RunState) -> &'static str
     ensures { result.now ≡ run_state_word_of state }
 {
     match state {

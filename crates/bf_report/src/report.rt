@@ -1,5 +1,5 @@
 //! Reports.
-ghost use Rattle.std.specs.Prelude.{◌≡◌, ℕ, ◌++◌, ◌∷◌, [], Some, None, IfOk, OnOk, option_copied};
+ghost use Rattle.std.specs.Prelude.{◌≡◌, ℕ, ◌++◌, ◌∷◌, [], Some, None, IfOk, OnErr, OnOk, option_copied};
 ghost use Rattle.bf_moment.specs.Moment.{IsShown};
 ghost use Rattle.bf_report.specs.Told.{told_by};
 
@@ -43,7 +43,7 @@ enum Kept {
 impl Kept {
     /// Stores an instance in full, all but the number of its tries.
     #[inline(always)]
-    fn new(
+    fn in_full(
         alloc: Global,
         outcome: Outcome,
         item: Option<Xval>,
@@ -98,6 +98,7 @@ impl Model for InstanceReport {
 
 impl InstanceReport {
     ghost use Rattle.bf_report.specs.Report.{state_word, value_word, pulled_word};
+    ghost use Rattle.bf_xcom.specs.Pulls.{pushed_by};
 
     /// Makes an instance that ended so, without an item and without pulls.
     #[inline(always)]
@@ -112,7 +113,7 @@ impl InstanceReport {
                     Kept::Success
                 } else {
                     let outcome = Outcome::Success(pushed);
-                    Kept::new(alloc, outcome, None, Sequence::new(alloc))?
+                    Kept::in_full(alloc, outcome, None, Sequence::new(alloc))?
                 }
             }
             Outcome::Failed => Kept::Failed,
@@ -135,19 +136,19 @@ impl InstanceReport {
             return InstanceReport::new_bare(alloc, ended);
         }
         let TaskResult { outcome, tries } = ended;
-        let kept = Kept::new(alloc, outcome, item, pulls)?;
+        let kept = Kept::in_full(alloc, outcome, item, pulls)?;
         Ok(InstanceReport { tries, kept })
     }
 
-    /// Gives how the instance's last try ended, and that try's number. The value that it pushed is copied.
-    pub fn result(&self, alloc: Global) -> Result<TaskResult, OutOfMemory>
+    /// Gives how the instance's last try ended, and that try's number. The value that it pushed is shared.
+    pub fn result(&self) -> Result<TaskResult, OutOfMemory>
         ensures { IfOk result (λ ended. ended ≡ self.now.result) }
     {
         let outcome = match &self.kept {
             Kept::Success => Outcome::Success(SharedValue::nothing()),
             Kept::Failed => Outcome::Failed,
             Kept::Skipped => Outcome::Skipped,
-            Kept::Told(told) => told.outcome.copy(alloc)?,
+            Kept::Told(told) => told.outcome.share()?,
         };
         let tries = self.tries;
         Ok(TaskResult { outcome, tries })
@@ -178,7 +179,8 @@ impl InstanceReport {
 
     /// Gives the value that the instance pushed; None where it pushed nothing or didn't succeed.
     pub(crate) fn pushed(&self) -> Option<&Xval>
-        ensures { pulled_word (option_copied result) ≡ value_word self.now.result.outcome }
+        ensures word { pulled_word (option_copied result) ≡ value_word self.now.result.outcome }
+        ensures value { option_copied result ≡ pushed_by self.now.result.outcome }
     {
         match &self.kept {
             Kept::Told(told) => match &told.outcome {
@@ -209,30 +211,33 @@ impl InstanceReport {
         }
     }
 
-    /// Sets the instance's item, in place of any before.
+    /// Sets the instance's item, in place of any before; `Err` changes nothing.
     pub fn set_item(&mut self, alloc: Global, item: Xval) -> Result<(), OutOfMemory>
-        ensures { OnOk result (self.new ≡ record self.old { item = Some item }) }
+        ensures ok { OnOk result (self.new ≡ record self.old { item = Some item }) }
+        ensures err { OnErr result (self.new ≡ self.old) }
     {
         if let Kept::Told(told) = &mut self.kept {
             told.item = Some(item);
             return Ok(());
         }
-        let TaskResult { outcome, .. } = self.result(alloc)?;
-        self.kept = Kept::new(alloc, outcome, Some(item), Sequence::new(alloc))?;
+        let TaskResult { outcome, .. } = self.result()?;
+        self.kept = Kept::in_full(alloc, outcome, Some(item), Sequence::new(alloc))?;
         Ok(())
     }
 
-    /// Adds a pull behind the instance's other pulls.
+    /// Adds a pull behind the instance's other pulls; `Err` changes nothing.
     pub fn add_pull(&mut self, alloc: Global, pull: Pull) -> Result<(), OutOfMemory>
-        ensures { OnOk result (self.new ≡ record self.old { pulls = self.old.pulls ++ pull ∷ [] }) }
+        ensures ok { OnOk result (self.new
+            ≡ record self.old { pulls = self.old.pulls ++ pull ∷ [] }) }
+        ensures err { OnErr result (self.new ≡ self.old) }
     {
         if let Kept::Told(told) = &mut self.kept {
             return told.pulls.push(pull);
         }
         let mut pulls = Sequence::new(alloc);
         pulls.push(pull)?;
-        let TaskResult { outcome, .. } = self.result(alloc)?;
-        self.kept = Kept::new(alloc, outcome, None, pulls)?;
+        let TaskResult { outcome, .. } = self.result()?;
+        self.kept = Kept::in_full(alloc, outcome, None, pulls)?;
         Ok(())
     }
 }

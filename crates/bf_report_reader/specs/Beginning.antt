@@ -51,6 +51,7 @@ last_run (Some open_run) = closed open_run ∷ []
 abbrev pub runs_of : ReportSoFar → List RunReport
 runs_of beginning = beginning.runs ++ last_run beginning.run
 
+-- the report of all lines read so far
 abbrev pub so_far : ReportSoFar → Report
 so_far beginning =
     record {
@@ -117,6 +118,7 @@ abbrev pub is_whole_in : Option OpenRun → List (List ℕ) → Bool
 is_whole_in None tasks = true
 is_whole_in (Some open_run) tasks = task_count_of open_run == length tasks
 
+-- the report may end here, or a new run begin
 abbrev pub is_whole_at : ReportSoFar → Bool
 is_whole_at beginning = has_its_item_at beginning && is_whole_in beginning.run beginning.tasks
 

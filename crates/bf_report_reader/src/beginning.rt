@@ -1,5 +1,5 @@
 //! A report as far as it was read.
-ghost use Rattle.std.specs.Prelude.{◌≡◌, ◌∷◌, ◌++◌, [], if◌then◌else◌, true, IfOk, OnOk, Some, None};
+ghost use Rattle.std.specs.Prelude.{◌≡◌, ◌++◌, [], if◌then◌else◌, true, false, IfOk, OnOk, Some, None};
 ghost use Rattle.bf_report_reader.specs.Beginning.{so_far, last_run, never_report, opened_by, run_count_of, has_its_item_at, is_whole_in, is_whole_at, may_begin_in, with_run, is_new_id_in, is_next_id_at, ids_with, with_task, with_open, is_next_instance_at, with_further, may_take_part_in, with_part, with_entry};
 
 use crate::entry::{Entry, Untried};
@@ -68,11 +68,11 @@ impl ReportSoFar {
 
     /// Answers whether the instance read last has its item. True too where it needs none: its task isn't expanded, the
     /// report's version has no items, or no instance was read.
-    fn has_its_item(&self) -> bool
+    fn has_needed_item(&self) -> bool
         ensures { result ≡ has_its_item_at self.now }
     {
         match &self.run {
-            Some(open) => open.has_its_item(self.version),
+            Some(open) => open.has_needed_item(self.version),
             None => true,
         }
     }
@@ -92,7 +92,7 @@ impl ReportSoFar {
     pub fn is_whole(&self) -> bool
         ensures { result ≡ is_whole_at self.now }
     {
-        self.has_its_item() && self.has_all_tasks()
+        self.has_needed_item() && self.has_all_tasks()
     }
 
     /// Answers whether a run of this data interval may come next: the report is whole so far (`is_whole`), it has fewer
@@ -113,8 +113,9 @@ impl ReportSoFar {
     /// (`may_begin`).
     pub fn add_run(&mut self, run: RunReport) -> Result<bool, OutOfMemory>
         requires { run.tasks ≡ [] }
-        ensures { IfOk result (λ taken.
+        ensures added { IfOk result (λ taken.
             with_run self.old run ≡ (if taken then Some self.new else None)) }
+        ensures refused { IfOk result (λ taken. taken ≡ false → self.new ≡ self.old) }
     {
         if !self.may_begin(run.interval) {
             return Ok(false);
@@ -143,13 +144,13 @@ impl ReportSoFar {
         let Some(open) = &self.run else {
             return false;
         };
-        if !open.has_its_item(self.version) {
+        if !open.has_needed_item(self.version) {
             return false;
         }
         if self.runs.is_empty() {
             return self.is_new_id(id);
         }
-        self.tasks.has_at(open.task_count(), id)
+        self.tasks.has_id_at(open.task_count(), id)
     }
 
     /// Adds the id of a task of the first run to `tasks`. Does nothing in later runs, whose ids are known already.
@@ -176,8 +177,9 @@ impl ReportSoFar {
         id: &[u8],
         untried: Untried,
     ) -> Result<bool, OutOfMemory>
-        ensures { IfOk result (λ taken. with_task self.old id.now (never_report untried)
+        ensures added { IfOk result (λ taken. with_task self.old id.now (never_report untried)
             ≡ (if taken then Some self.new else None)) }
+        ensures refused { IfOk result (λ taken. taken ≡ false → self.new ≡ self.old) }
     {
         if !self.is_next_id(id) {
             return Ok(false);
@@ -199,8 +201,9 @@ impl ReportSoFar {
         is_expanded: bool,
         first: TaskResult,
     ) -> Result<bool, OutOfMemory>
-        ensures { IfOk result (λ taken. with_open self.old id.now (opened_by is_expanded first)
+        ensures added { IfOk result (λ taken. with_open self.old id.now (opened_by is_expanded first)
             ≡ (if taken then Some self.new else None)) }
+        ensures refused { IfOk result (λ taken. taken ≡ false → self.new ≡ self.old) }
     {
         if !self.is_next_id(id) {
             return Ok(false);
@@ -220,10 +223,10 @@ impl ReportSoFar {
         let Some(open) = &self.run else {
             return false;
         };
-        if !open.has_its_item(self.version) || !open.is_next_instance(index) {
+        if !open.has_needed_item(self.version) || !open.is_next_instance(index) {
             return false;
         }
-        self.tasks.has_at(open.task_count() - 1, id)
+        self.tasks.has_id_at(open.task_count() - 1, id)
     }
 
     /// Adds a further instance, which ended as `ended`, to the task read last, and answers true; false, with nothing
@@ -235,8 +238,9 @@ impl ReportSoFar {
         index: u32,
         ended: TaskResult,
     ) -> Result<bool, OutOfMemory>
-        ensures { IfOk result (λ taken.
+        ensures added { IfOk result (λ taken.
             with_further self.old id.now index ended ≡ (if taken then Some self.new else None)) }
+        ensures refused { IfOk result (λ taken. taken ≡ false → self.new ≡ self.old) }
     {
         if !self.is_next_instance(id, index) {
             return Ok(false);
@@ -251,8 +255,9 @@ impl ReportSoFar {
     /// come next.
     #[tactic(auto, unfolding(crate::specs::Beginning::with_entry))]
     pub fn add_entry(&mut self, alloc: Global, id: &[u8], entry: Entry) -> Result<bool, OutOfMemory>
-        ensures { IfOk result (λ taken.
+        ensures added { IfOk result (λ taken.
             with_entry self.old id.now entry ≡ (if taken then Some self.new else None)) }
+        ensures refused { IfOk result (λ taken. taken ≡ false → self.new ≡ self.old) }
     {
         match entry {
             Entry::Never(untried) => self.add_untried_task(alloc, id, untried),
@@ -275,8 +280,9 @@ impl ReportSoFar {
     /// Adds an item or a pull to the instance read last, and answers true; false, with nothing added, where it may not
     /// come next (`may_take_part`).
     pub fn add_part(&mut self, alloc: Global, part: GivenPart) -> Result<bool, OutOfMemory>
-        ensures { IfOk result (λ taken.
+        ensures added { IfOk result (λ taken.
             with_part self.old part ≡ (if taken then Some self.new else None)) }
+        ensures refused { IfOk result (λ taken. taken ≡ false → self.new ≡ self.old) }
     {
         if !self.may_take_part(&part) {
             return Ok(false);

@@ -57,8 +57,8 @@ impl ReadBuffer {
         })
     }
 
-    /// Reads once from the device into the empty buffer, and answers whether bytes came; false at the device's end.
-    /// Repeats interrupted reads. `Halted` where a read fails, or at the 1,001st interruption since the buffer was
+    /// Reads from the device into the empty buffer, over the line that `line` gives, and answers whether bytes came;
+    /// false at the device's end. Repeats interrupted reads. `Halted` where a read fails, or at the 1,001st interruption since the buffer was
     /// made.
     fn fill<R: Read>(&mut self, device: &mut R) -> Result<bool, Halted>
         requires { self.old.start ≡ self.old.end }
@@ -92,8 +92,8 @@ impl ReadBuffer {
         }
     }
 
-    /// Answers whether bytes are left to take, and reads from the device first where the buffer is empty. False at the
-    /// device's end. `Halted` where a read fails, or at the 1,001st interruption since the buffer was made.
+    /// Answers whether bytes are left to take, and reads from the device first where the buffer is empty, over the line
+    /// that `line` gives. False at the device's end. `Halted` where a read fails, or at the 1,001st interruption since the buffer was made.
     pub fn has_more<R: Read>(&mut self, device: &mut R) -> Result<bool, Halted>
         ensures same { OnOk result (Consumes (ahead self.old (R.left device.old))
             (ahead self.new (R.left device.new)) []) }
@@ -145,7 +145,7 @@ impl ReadBuffer {
         }
     }
 
-    /// Gives the line taken last, without its line feed; empty before the first.
+    /// Gives the line taken last, without its line feed, until bytes are read again; empty before the first.
     pub fn line(&self) -> &[u8]
         ensures { result.now ≡ held_line self.now }
     {

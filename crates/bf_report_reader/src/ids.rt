@@ -49,7 +49,7 @@ impl TaskIds {
     }
 
     /// Answers whether the task at this place, from 0, has this id; false where there is no such place.
-    pub fn has_at(&self, number: usize, id: &[u8]) -> bool
+    pub fn has_id_at(&self, number: usize, id: &[u8]) -> bool
         ensures { result ≡ is_text (slice_get self.now number) id.now }
     {
         match self.set.get_index(number) {

@@ -30,7 +30,7 @@ fn most_pulls(version: Version) -> usize
 
 /// Answers whether the last instance of a task has its item. True too where it needs none: the task isn't expanded or
 /// has no instance, or the version has no items.
-fn has_its_item(version: Version, task: &TaskReport) -> bool
+fn has_needed_item(version: Version, task: &TaskReport) -> bool
     ensures { result ≡ is_given_task version (open_by task.now) }
 {
     match (version, task) {
@@ -73,7 +73,7 @@ fn instance_may_take(
 fn task_may_take(version: Version, task: &TaskReport, part: &GivenPart) -> bool
     ensures { result ≡ takes_task version (open_by task.now) part.now }
 {
-    let is_given = has_its_item(version, task);
+    let is_given = has_needed_item(version, task);
     match task {
         TaskReport::Ran(instance) => instance_may_take(version, is_given, instance, part),
         TaskReport::Mapped(instances) => match instances.as_slice().last() {
@@ -335,11 +335,11 @@ impl OpenRun {
     }
 
     /// Answers whether the instance read last has its item. True too where it needs none, or no task was read yet.
-    pub fn has_its_item(&self, version: Version) -> bool
+    pub fn has_needed_item(&self, version: Version) -> bool
         ensures { result ≡ is_given_task version self.now.task }
     {
         match self.last() {
-            Some(task) => has_its_item(version, task),
+            Some(task) => has_needed_item(version, task),
             None => true,
         }
     }

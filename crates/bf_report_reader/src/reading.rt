@@ -39,6 +39,7 @@ struct Lines {
 }
 
 impl Lines {
+    /// Makes the lines of a device from which nothing was read yet.
     fn new(alloc: Global) -> Result<Lines, OutOfMemory>
         ensures { IfOk result (λ lines.
             (held_bytes lines.held ≡ []) × (lines.held.interruptions ≡ 0) × (lines.number ≡ 0)) }
@@ -51,7 +52,8 @@ impl Lines {
         })
     }
 
-    /// Reads the next line: `TooLong` past its limit, `Truncated` without its line feed, `Io` where the device fails.
+    /// Reads the next line: `TooLong` past its limit, `Truncated` without its line feed, `Io` where the device fails
+    /// or is interrupted too often, `OutOfMemory` at want of memory.
     fn read<R: Read>(&mut self, device: &mut R) -> Result<(), ReportFault>
         requires { self.old.number < 300_000_000_000 }
         ensures line { OnOk result (Consumes (ahead self.old.held (R.left device.old))
@@ -83,6 +85,7 @@ impl Lines {
         }
     }
 
+    /// Gives the line read last, without its line feed.
     fn line(&self) -> &[u8]
         ensures { result.now ≡ line_in self.now }
     {
@@ -218,7 +221,7 @@ fn read_pull(alloc: Global, beginning: &mut ReportSoFar, text: &[u8]) -> Result<
 }
 
 /// Answers `End` where the report is whole and has as many runs as `text`, which follows `@end `, says; else `Refused`.
-fn read_end(beginning: &ReportSoFar, text: &[u8]) -> Step
+fn end_or_refused(beginning: &ReportSoFar, text: &[u8]) -> Step
     requires ruled { IsRuled beginning.now }
     ensures { EndsBy result beginning.now text.now }
 {
@@ -248,7 +251,7 @@ fn read_line(alloc: Global, beginning: &mut ReportSoFar, line: &[u8]) -> Result<
         return read_pull(alloc, beginning, text);
     }
     if first == b"@end".as_slice() {
-        return Ok(read_end(beginning, text));
+        return Ok(end_or_refused(beginning, text));
     }
     read_task(alloc, beginning, first, text)
 }

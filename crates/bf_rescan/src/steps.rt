@@ -1,5 +1,5 @@
 //! The step that comes next by itself.
-ghost use Rattle.std.specs.Prelude.{◌≡◌, ◌≤◌, ℕ, IfSome, IfNone};
+ghost use Rattle.std.specs.Prelude.{◌≤◌, ℕ, IfSome, IfNone};
 ghost use Rattle.bf_graph.specs.Order.{IsByRank};
 ghost use Rattle.bf_plan.specs.Plans.{shape_of};
 ghost use Rattle.bf_core.specs.Cores.{MayCome, deciding};

@@ -78,7 +78,7 @@ fn skips_for_skipped(rule: Rule) -> bool
 }
 
 /// The given task in a list of its own; the empty list for None.
-fn list_of_one(alloc: Global, task: Option<u32>) -> Result<Vec<u32>, OutOfMemory>
+fn list_of_option(alloc: Global, task: Option<u32>) -> Result<Vec<u32>, OutOfMemory>
     ensures { IfOk result (λ tasks. tasks.items ≡ tasks_of_option_of task) }
 {
     let mut tasks = Vec::new(alloc);
@@ -126,8 +126,8 @@ fn next_tasks(
         StateCause::UpstreamIsBlocked => Ok(blocked_tasks(alloc, settled, upstreams)?),
         StateCause::RuleFails => Ok(tasks_in_states(alloc, settled, upstreams, States::FAILURES)?),
         StateCause::RuleSkips => skipped_upstreams(alloc, settled, here),
-        StateCause::PastHasNotPassed => list_of_one(alloc, Some(task)),
-        StateCause::ItemsAreMissing | StateCause::HasNoItems => list_of_one(alloc, here.expand),
+        StateCause::PastHasNotPassed => list_of_option(alloc, Some(task)),
+        StateCause::ItemsAreMissing | StateCause::HasNoItems => list_of_option(alloc, here.expand),
         StateCause::Waits | StateCause::Runs(_) => Ok(Vec::new(alloc)),
     }
 }

@@ -14,7 +14,7 @@ pub(crate) fn unseen_rows(
     ensures { IfOk result (λ seen. seen.items ≡ nothing_seen runs tasks) }
 {
     let mut seen = Vec::with_capacity(alloc, runs)?;
-    for run in 0..runs {
+    for _ in 0..runs {
         seen.push(Sequence::from_vec(vec![in alloc; false; tasks]?))?;
     }
     Ok(seen)
@@ -26,13 +26,13 @@ pub(crate) fn is_seen(seen: &[Sequence<bool>], run: u32, task: u32) -> bool
     ensures { result ≡ is_seen_in seen.now run task }
 {
     match seen.get(run as usize) {
-        Some(row) => is_seen_in(row.as_slice(), task),
+        Some(row) => is_seen_in_row(row.as_slice(), task),
         None => true,
     }
 }
 
 /// Whether task number `task` is marked as seen in `row`, that of its run; true where the row has no such task.
-fn is_seen_in(row: &[bool], task: u32) -> bool
+fn is_seen_in_row(row: &[bool], task: u32) -> bool
     ensures { result ≡ slice_index_or row.now task true }
 {
     match row.get(task as usize) {

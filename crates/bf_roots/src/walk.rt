@@ -87,7 +87,7 @@ pub fn roots_of(
     let tasks = plan.dag().tasks.len();
     let mut window = Window::at(alloc, report, run)?;
     let mut trail = Trail::new(alloc, runs, tasks, first_step(run, task))?;
-    'walk: while let Some(step) = trail.left.pop() {
+    while let Some(step) = trail.left.pop() {
         if is_seen(trail.seen.as_slice(), step.run, step.task) {
             continue;
         }

@@ -1,5 +1,5 @@
 //! The choice of events.
-ghost use Rattle.std.specs.Prelude.{◌≡◌, ◌≤◌, OnOk, OnErr, IfOk, IfErr};
+ghost use Rattle.std.specs.Prelude.{◌≡◌, ◌⊎◌, ◌≤◌, OnOk, OnErr, IfOk, IfErr};
 ghost use Rattle.bf_try.specs.Grades.{grade_of};
 ghost use Rattle.bf_core.specs.Events.{HasEnded};
 ghost use Rattle.bf_core.specs.Cores.{IsRefusal, IsReplay, MayCome, moved};
@@ -68,7 +68,7 @@ fn apply_allowed(ready: &mut Ready<'_>, event: Event) -> Result<(), OutOfMemory>
 
 /// Moves the clock to `moment`, in seconds since 1970, and answers true; false, and nothing moved, where the moment
 /// isn't later than the clock's time or is past `LAST_MOMENT`. `Err`, at want of memory, changes nothing.
-fn try_tick(ready: &mut Ready<'_>, moment: i64) -> Result<bool, OutOfMemory>
+fn tick_if_later(ready: &mut Ready<'_>, moment: i64) -> Result<bool, OutOfMemory>
     ensures ok { IfOk result (λ came. HasComeTo ready.old moment came ready.new) }
     ensures same { OnErr result (ready.new ≡ ready.old) }
 {
@@ -104,6 +104,8 @@ fn grade_answer(alloc: Global, core: &Core<'_>, done: &Done) -> Result<Outcome, 
     ensures err { IfErr result (IsRefused core.now done.now) }
     ensures memory { MayFinish core.now done.now
         → IfErr result (λ fault. fault ≡ Illegal.OutOfMemory) }
+    ensures cause { IfErr result (λ fault. (fault ≡ Illegal.Stranger)
+        ⊎ (fault ≡ Illegal.OutOfMemory)) }
 {
     let _replayed = core.journal();
     let name = done.name();
@@ -111,7 +113,7 @@ fn grade_answer(alloc: Global, core: &Core<'_>, done: &Done) -> Result<Outcome, 
         return Err(Illegal::Stranger);
     }
     if let Some(instance) = core.running_instance(name) {
-        if !instance.given.is_same(done.given()) {
+        if !instance.given.is_given(done.given()) {
             return Err(Illegal::Stranger);
         }
     }
@@ -145,7 +147,7 @@ impl<'a> Scheduler<'a> {
     }
 
     /// The earliest moment still to come for which a try waits, in seconds since 1970; None where no try waits for one.
-    pub fn pending(&self) -> Option<i64>
+    pub fn next_moment(&self) -> Option<i64>
         ensures { IsNextMoment self.now.backfill result }
     {
         self.ready.next_moment()
@@ -187,7 +189,7 @@ impl<'a> Scheduler<'a> {
         ensures same { OnErr result (self.new ≡ self.old) }
     {
         let _replayed = self.ready.journal();
-        let came = try_tick(&mut self.ready, moment)?;
+        let came = tick_if_later(&mut self.ready, moment)?;
         Ok(came)
     }
 

@@ -61,4 +61,4 @@ pub fault_of_line : (dag : Dag) (intervals : List Interval) (line : List ℕ) (s
 fault_of_line dag intervals line seed BadFile spells is = absurd is
 fault_of_line dag intervals line seed (BadSeed bad) spells is = absurd is
 fault_of_line dag intervals line seed (Unknown why) spells is = (seed, spells, is)
-fault_of_line dag intervals line seed OutOfMemory spells is = tt
+fault_of_line dag intervals line seed OutOfMemory spells is = absurd is

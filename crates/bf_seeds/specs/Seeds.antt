@@ -55,6 +55,7 @@ SpellsTask text None task index = (task ≡ text) × (0 < length text) × (index
 SpellsTask text (Some (first, rest)) task index =
     (task ≡ first) × (0 < length first) × ((i : ℤ) × (index ≡ Some i) × SpellsIndex rest i)
 
+-- the two parts of a line say this seed
 abbrev pub SpellsParts : Option (List ℕ × List ℕ) → Seed → Type 0
 SpellsParts None seed = ⊥
 SpellsParts (Some (run, rest)) seed =
@@ -78,7 +79,7 @@ abbrev pub IsSeedOf : Dag → List Interval → List ℕ → Seed → Type 0
 IsSeedOf dag intervals line seed =
     SpellsSeed line seed × (seed_fault dag intervals (seed ∷ []) ≡ None)
 
--- line by line
+-- the lines are of these seeds, in order
 abbrev pub AreSeeds : Dag → List Interval → List (List ℕ) → List Seed → Type 0
 AreSeeds dag intervals [] [] = Unit {0}
 AreSeeds dag intervals (line ∷ lines) (seed ∷ seeds) =

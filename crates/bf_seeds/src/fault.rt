@@ -58,6 +58,7 @@ impl From<OutOfMemory> for SeedsFault {
 
     ghost from_gives = { λ _ e. e ≡ OutOfMemory };
 
+    /// Gives `OutOfMemory`.
     fn from(_e: OutOfMemory) -> SeedsFault {
         SeedsFault::OutOfMemory
     }

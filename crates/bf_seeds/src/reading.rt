@@ -1,5 +1,5 @@
 //! Seeds files.
-ghost use Rattle.std.specs.Prelude.{◌≡◌, ◌⊎◌, ◌∷◌, ◌++◌, [], map, None, IfOk, IfErr, OnOk};
+ghost use Rattle.std.specs.Prelude.{◌≡◌, ◌⊎◌, ◌∷◌, ◌++◌, [], map, None, IfOk, IfErr, OnErr, OnOk};
 ghost use Rattle.bf_dependents.specs.Seeds.{seed_fault};
 ghost use Rattle.bf_seeds.specs.declared.fault.SeedsFault.TheVariants;
 ghost use Rattle.bf_seeds.specs.Seeds.{AreSeeds, IsFaultOfLine, IsFirstFault, IsSeedOf, lines_in};
@@ -69,9 +69,10 @@ fn seed_in_line(
     }
 }
 
-/// Adds a seed at the end of `seeds`.
+/// Adds a seed at the end of `seeds`; `Err` changes nothing.
 fn add_seed(seeds: &mut Vec<Seed>, seed: Seed) -> Result<(), OutOfMemory>
-    ensures { OnOk result (seeds.new.items ≡ seeds.old.items ++ seed ∷ []) }
+    ensures ok { OnOk result (seeds.new.items ≡ seeds.old.items ++ seed ∷ []) }
+    ensures err { OnErr result (seeds.new.items ≡ seeds.old.items) }
 {
     seeds.push(seed)?;
     Ok(())

@@ -41,7 +41,7 @@ abbrev pub pull_members : List Pull → Members
 pull_members [] = no_members
 pull_members (pull ∷ pulls) = member pull.task (pulled_data pull.value) (pull_members pulls)
 
--- the same as one member, where it pulled at all
+-- what it pulled as one member, where it pulled at all
 abbrev pub pulls_members : List Pull → Members
 pulls_members [] = no_members
 pulls_members (pull ∷ pulls) =

@@ -89,7 +89,7 @@ impl RunLines<'_> {
 
     /// Adds the line of a task that isn't expanded, with its line feed: that of its one instance, with -1 as its map
     /// index.
-    fn push_unmapped(
+    fn push_only_instance(
         &self,
         alloc: Global,
         text: &mut String,
@@ -157,7 +157,7 @@ impl RunLines<'_> {
             TaskReport::UpstreamFailed => {
                 self.push_untried(alloc, text, id, "\"upstream_failed\"")
             }
-            TaskReport::Ran(instance) => self.push_unmapped(alloc, text, id, instance),
+            TaskReport::Ran(instance) => self.push_only_instance(alloc, text, id, instance),
             TaskReport::Mapped(instances) => {
                 self.push_mapped(alloc, text, id, instances.as_slice())
             }

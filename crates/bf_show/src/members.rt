@@ -107,7 +107,7 @@ pub(crate) fn push_ended(
     ensures { OnOk result (string_bytes text.new ≡ string_bytes text.old
         ++ line_end (ended_members instance.now)) }
 {
-    let ended = instance.result(alloc)?;
+    let ended = instance.result()?;
     let tries = ended.tries;
     push_key(text, Key::State)?;
     text.push_str(state_string(&ended.outcome))?;

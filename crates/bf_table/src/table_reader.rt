@@ -27,17 +27,17 @@ fn is_key(name: &str) -> bool
 }
 
 /// Answers whether an entry of a table may have all these keys.
-fn are_keys(members: &Map<String, Value>) -> bool
+fn are_all_keys_known(members: &Map<String, Value>) -> bool
     ensures { result ≡ list_all (λ name. is_key_in (string_bytes name)) (keys members.now) }
 {
     members.keys().all(|name| is_key(name.as_str()))
 }
 
-/// Answers whether an object has only keys that an entry of a table may have.
+/// The same, by the object's members as contracts of JSON see them.
 fn has_known_keys(members: &Map<String, Value>) -> bool
     ensures { result ≡ has_known_keys_in (members_view members.now.entries) }
 {
-    are_keys(members)
+    are_all_keys_known(members)
 }
 
 /// Answers whether a value is an object that has only keys that an entry of a table may have.

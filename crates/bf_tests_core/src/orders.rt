@@ -21,7 +21,7 @@ const REPORT: &str = "@backfill 2 d\n\
     @end 1\n";
 
 /// Makes the report of a backfill that has ended, over the one run at 1970; fails where it has other runs.
-fn report_over_run(alloc: Global, ended: &Ended<'_>) -> Result<Report, Fail> {
+fn report_over_run(alloc: Global, ended: Ended<'_>) -> Result<Report, Fail> {
     let runs = epoch_run(alloc)?;
     if ended.run_states().len() != runs.count() {
         return Err(Fail::from("it has other runs"));
@@ -39,7 +39,7 @@ fn report_over(
 ) -> Result<Report, Fail> {
     let core = core_after(rt, alloc, plan, steps)?;
     let ended = core.into_ended().ok().ok_or("it has not ended")?;
-    report_over_run(alloc, &ended)
+    report_over_run(alloc, ended)
 }
 
 /// Makes the report of `JOIN` after these steps. It tells the whole ledger, by the law `reports_tell_ledgers`.

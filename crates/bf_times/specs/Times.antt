@@ -49,7 +49,7 @@ abbrev pub value_times : Option Xval → List ℕ
 value_times (Some (ListOf fields)) = record_times (xvals_of fields)
 value_times _ = []
 
--- the same, of the record that a line says
+-- the times of the record that a line says
 abbrev pub line_times : List ℕ → List ℕ
 line_times text = value_times (value_of_text 127 text)
 

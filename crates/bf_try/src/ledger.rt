@@ -1,5 +1,5 @@
 //! Ledgers of tries.
-ghost use Rattle.std.specs.Prelude.{◌≡◌, ◌↔◌, All, None, IsSome, IsTrue, IfErr, OnOk, OnErr, option_copied};
+ghost use Rattle.std.specs.Prelude.{◌≡◌, ◌↔◌, All, None, Some, IsSome, IsTrue, IfErr, OnOk, OnErr, option_copied};
 ghost use Rattle.std.specs.FinMap;
 ghost use Rattle.std.specs.BTreeMap.{IsOrdered};
 ghost use Rattle.bf_value.specs.Names.{name_cmp};
@@ -7,7 +7,7 @@ ghost use Rattle.bf_try.specs.Tries.{AreAlike};
 ghost use Rattle.bf_try.specs.inner.Tries.{Agree};
 
 use bf_value::JobName;
-use bf_xcom::{Given, Outcome};
+use bf_xcom::{Outcome, SharedGiven};
 use std::alloc::Global;
 use std::collections::BTreeMap;
 use std::marker::Model;
@@ -16,7 +16,7 @@ use thiserror::Error;
 /// What a ledger holds of a try: what it was given, and how it ended.
 #[derive(Debug, Drop)]
 pub struct Entry {
-    pub given: Given,
+    pub given: SharedGiven,
     pub outcome: Outcome,
 }
 
@@ -76,12 +76,23 @@ impl Ledger {
         ensures back { IfErr result (λ e. e.0 ≡ entry) }
         ensures err { OnErr result (self.new ≡ self.old) }
     {
-        if self.get(name).is_some() {
-            return Err((entry, NoteFault::AlreadyRecorded));
-        }
         match self.entries.insert(name, entry) {
-            Ok(_) => Ok(()),
+            Ok(None) => Ok(()),
+            Ok(Some(held)) => Err((self.put_back(name, held), NoteFault::AlreadyRecorded)),
             Err(failed) => Err((failed.value.1, NoteFault::OutOfMemory)),
+        }
+    }
+
+    /// Puts the entry back that a try had before another took its place, and gives that other. Takes no memory.
+    fn put_back(&mut self, name: JobName, held: Entry) -> Entry
+        requires { IsSome (FinMap.get self.old name) }
+        ensures back { self.new ≡ FinMap.insert self.old name held }
+        ensures other { FinMap.get self.old name ≡ Some result }
+    {
+        match self.entries.insert(name, held) {
+            Ok(Some(other)) => other,
+            Ok(None) => unreachable!(),
+            Err(_) => unreachable!(),
         }
     }
 }

@@ -21,7 +21,7 @@ use Rattle.bf_views.specs.inner.ExplainFaults.{IsFaultOfAsked}
 use Rattle.bf_views.specs.Explanations.{IsExplainAnswer, IsExplanation, paths_asked}
 use Rattle.bf_views.specs.Planned.{IsPlanningFault}
 use Rattle.bf_views.specs.inner.Planned.{IsPlanned}
-use Rattle.bf_views.specs.inner.Writing.{IsWritingFault}
+use Rattle.bf_planning.specs.Wanting.{IsWanting}
 
 -- a text that means no moment
 pub unmeant : (files : Files) (asked : ExplainAsked) (fault : CommandFault) → (fault ≡ BadMoment) × IsNoMoment (string_bytes asked.run) → IsExplainFault files asked fault
@@ -82,12 +82,12 @@ module _ (files : Files) (asked : ExplainAsked) (start : Timestamp) (means : Mea
     pub asked_explains : (fault : CommandFault) → IsFaultOfAsked planned.plan.dag report start.nanosecond asked.task fault → IsExplainFault files asked fault
     asked_explains fault is = meant fault (asked_at fault is)
 
-    writing_at : (fault : CommandFault) → IsWritingFault fault → IsExplainFaultAt files asked start.nanosecond fault
+    writing_at : (fault : CommandFault) → IsWanting fault → IsExplainFaultAt files asked start.nanosecond fault
     writing_at OutOfMemory is = tt
     writing_at (CannotWrite n) is = (readable, is_read.readable)
     writing_at _ is = absurd is
 
-    pub writing_explains : (fault : CommandFault) → IsWritingFault fault → IsExplainFault files asked fault
+    pub writing_explains : (fault : CommandFault) → IsWanting fault → IsExplainFault files asked fault
     writing_explains fault is = meant fault (writing_at fault is)
 
     pub explain_answer : (text : List ℕ) → IsExplanation (paths_asked asked) planned.plan.dag report start.nanosecond asked.task text → IsExplainAnswer files asked text Status.Success

@@ -25,7 +25,7 @@ use Rattle.bf_views.specs.Grids.{IsGridAnswer, view_asked}
 use Rattle.bf_views.specs.Matching.{is_of_graph}
 use Rattle.bf_views.specs.inner.Planned.{IsPlanned}
 use Rattle.bf_views.specs.Reported.{IsReportedFault}
-use Rattle.bf_views.specs.inner.Writing.{IsWritingFault}
+use Rattle.bf_planning.specs.Wanting.{IsWanting}
 
 -- ---- moments
 
@@ -48,10 +48,10 @@ reversed_leaves Halted IsDue before bounds fault is = subst (λ (f : CommandFaul
 -- ---- the device
 
 -- memory or the device was wanting
-pub is_unwritten : (fault : WriteFault) → IsWritingFault (of_write fault)
+pub is_unwritten : (fault : WriteFault) → IsWanting (of_write fault)
 is_unwritten fault = by_cause fault.cause fault.sent
   where
-    by_cause : (c : Cause) (n : ℕ) → IsWritingFault (of_cause c n)
+    by_cause : (c : Cause) (n : ℕ) → IsWanting (of_cause c n)
     by_cause cause.Io n = tt
     by_cause cause.OutOfMemory n = tt
 

@@ -26,7 +26,7 @@ use Rattle.bf_views.specs.inner.Planned.{IsPlanned}
 use Rattle.bf_views.specs.inner.Refused.{IsRefusedBy}
 use Rattle.bf_views.specs.Times.{AreTimesTold, IsJournalFault}
 use Rattle.bf_views.specs.inner.Times.{IsNamedJournalFault}
-use Rattle.bf_views.specs.inner.Writing.{IsWritingFault}
+use Rattle.bf_planning.specs.Wanting.{IsWanting}
 use Rattle.bf_views.proofs.ReportedEnds.{refusal_fault}
 
 -- ---- a command that passes a fault up
@@ -56,10 +56,10 @@ module _ (Halted : Type 0) (IsDue : List ℕ → Type 0) (before after : Option 
   pub write_leaves : (fault : WriteFault) → fault.cause ≡ cause.Io → EndsAt fault.sent text before after → Halted → Leaves Halted IsDue before after (of_write fault)
   write_leaves fault only part halted = left_by fault.cause fault.sent only part halted
 
-pub is_writing : (fault : WriteFault) → fault.cause ≡ cause.Io → IsWritingFault (of_write fault)
+pub is_writing : (fault : WriteFault) → fault.cause ≡ cause.Io → IsWanting (of_write fault)
 is_writing fault only = by_cause fault.cause fault.sent only
   where
-    by_cause : (c : Cause) (n : ℕ) → c ≡ cause.Io → IsWritingFault (of_cause c n)
+    by_cause : (c : Cause) (n : ℕ) → c ≡ cause.Io → IsWanting (of_cause c n)
     by_cause cause.Io n e = tt
     by_cause cause.OutOfMemory n e = cc
 
@@ -85,7 +85,7 @@ module _ (files : Files) (asked : PageAsked) where
     refusal_page (Clear ClearFault.ReportMismatch) is = refusal_fault files asked.graph (string_bytes asked.report) planned report are readable is_read (Clear ClearFault.ReportMismatch) is
     refusal_page _ is = absurd is
 
-    pub writing_page : AreReadable files (named_paths (journal_path asked)) → (fault : CommandFault) → IsWritingFault fault → IsPageFault files asked fault
+    pub writing_page : AreReadable files (named_paths (journal_path asked)) → (fault : CommandFault) → IsWanting fault → IsPageFault files asked fault
     writing_page journal OutOfMemory is = tt
     writing_page journal (CannotWrite n) is = ((readable, is_read.readable), journal)
     writing_page journal _ is = absurd is

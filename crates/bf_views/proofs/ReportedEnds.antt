@@ -16,7 +16,7 @@ use Rattle.bf_views.specs.Planned.{IsPlanningFault}
 use Rattle.bf_views.specs.inner.Planned.{IsPlanned}
 use Rattle.bf_views.specs.inner.Refused.{IsRefusedBy}
 use Rattle.bf_views.specs.Reported.{IsReportedFault}
-use Rattle.bf_views.specs.inner.Writing.{IsWritingFault}
+use Rattle.bf_planning.specs.Wanting.{IsWanting}
 
 -- a fault that isn't of the device leaves nothing of the text
 pub unwritten_leaves : (Halted : Type 0) (IsDue : List ℕ → Type 0) (before : Option (List ℕ)) (Is : CommandFault → Type 0) → ((n : ℕ) → Is (CannotWrite n) → ⊥)
@@ -50,7 +50,7 @@ module _ (files : Files) (asked : GraphAsked) (path : List ℕ) where
     )
     refusal_fault _ is = absurd is
 
-    pub writing_fault : (fault : CommandFault) → IsWritingFault fault → IsReportedFault files asked path fault
+    pub writing_fault : (fault : CommandFault) → IsWanting fault → IsReportedFault files asked path fault
     writing_fault OutOfMemory is = tt
     writing_fault (CannotWrite n) is = (readable, is_read.readable)
     writing_fault _ is = absurd is

@@ -13,7 +13,7 @@ use Rattle.bf_input.specs.Inputs.{IsReportFault}
 abbrev pub IsJsonOf : List ℕ → List ℕ → Type 0
 IsJsonOf held text = (report : Report) × IsReadAs held report × (text ≡ json_lines report)
 
--- so it is with whatever the file is told to hold
+-- the report can be read, and the text is its lines, whatever the file is told to hold
 pub record IsJsonAnswer (files : Files) (path text : List ℕ) (status : Status) : Type 0 where
   pub success : status ≡ Status.Success
   pub readable : IsReadable (files path)

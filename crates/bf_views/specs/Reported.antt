@@ -14,7 +14,7 @@ use Rattle.bf_planning.specs.Graphs.{IsGraph}
 use Rattle.bf_views.specs.Matching.{is_of_graph}
 use Rattle.bf_views.specs.Planned.{IsPlanningFault}
 
--- so it is with whatever the files are told to hold; the report's is the one of this path
+-- P holds of whatever the graph file, the zone file, and the report of this path are told to hold
 abbrev pub OfReported : Files → GraphAsked → List ℕ → (List ℕ → Option (List ℕ) → List ℕ → Type 0)
     → Type 0
 OfReported files asked path P =

@@ -10,7 +10,7 @@ use Rattle.bf_disk.specs.Files.{Files, IsHeld, IsReadable}
 abbrev pub IsTableOf : List ℕ → List ℕ → Type 0
 IsTableOf held text = (report : Report) × IsReadAs held report × (text ≡ answers_text report)
 
--- so it is with whatever the file is told to hold
+-- the report can be read, and the text is its table, whatever the file is told to hold
 pub record IsTableAnswer (files : Files) (path text : List ℕ) (status : Status) : Type 0 where
   pub success : status ≡ Status.Success
   pub readable : IsReadable (files path)

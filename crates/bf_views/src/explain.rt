@@ -71,14 +71,13 @@ fn run_number_at(report: &Report, start: Timestamp) -> Option<usize>
 /// memory runs out.
 fn explain_run_at(
     alloc: Global,
-    paths: &Paths,
     plan: &Plan,
     report: &Report,
     start: Timestamp,
 ) -> Result<String, CommandFault>
     requires { IsShownReport report.now }
-    ensures text { IfOk result (λ text. IsExplanation paths.now plan.now.dag report.now
-        start.nanosecond None (string_bytes text)) }
+    ensures text { (paths : Paths) → IfOk result (λ text. IsExplanation paths plan.now.dag
+        report.now start.nanosecond None (string_bytes text)) }
     ensures fault { IfErr result (IsFaultOfAsked plan.now.dag report.now start.nanosecond None) }
 {
     let Some(run) = run_number_at(report, start) else {
@@ -141,13 +140,14 @@ fn explain_run_or_task(
 {
     match task {
         Some(task) => explain_task_at(alloc, paths, plan, report, start, task),
-        None => explain_run_at(alloc, paths, plan, report, start),
+        None => explain_run_at(alloc, plan, report, start),
     }
 }
 
 /// Does `explain`: writes why a task or a run has its state; the report may be of `single`, or of any range. `Err`
-/// where the moment, the graph, the report, or a task, run or map index is refused, checked in this order; also where
-/// `out` fails or memory runs out. At `Err`, `out` got nothing but the bytes that `CannotWrite` counts.
+/// where the moment, the graph, the report's file, the task, the run, a report of another graph, or the map index is
+/// refused, checked in this order; also where `out` fails or memory runs out. At `Err`, `out` got nothing but the bytes
+/// that `CannotWrite` counts.
 pub fn answer_explain<S: Source, W: Write>(
     alloc: Global,
     asked: ExplainAsked,

@@ -1,7 +1,7 @@
 //! The commands that show a report: `show`, `explain`, `page`, and `answers`, each in the file of its name.
 //!
-//! Each reads its files in the order of its line, refuses a report of another graph, and writes one text. None starts a program
-//! or a thread. What the texts are is said in bf_grid and bf_show (`show`), bf_explain, bf_cells and bf_page (`page`), and bf_answers.
+//! Each reads its files in the order of its line and writes one text; those that read a graph refuse a report of another one. None
+//! starts a program or a thread. What the texts are is said in bf_grid and bf_show (`show`), bf_explain, bf_cells and bf_page (`page`), and bf_answers.
 #![tactic(auto)]
 
 mod answers;

@@ -8,7 +8,7 @@ ghost use Rattle.bf_views.specs.Matching.{is_of_graph};
 ghost use Rattle.bf_views.specs.PageFaults.{IsPageFault};
 ghost use Rattle.bf_views.specs.Pages.{IsPage, IsPageAnswer, report_shown, words_asked};
 ghost use Rattle.bf_views.specs.inner.ReadFor.{IsReadForPage};
-ghost use Rattle.bf_views.specs.inner.Writing.{IsWritingFault};
+ghost use Rattle.bf_planning.specs.Wanting.{IsWanting};
 
 use crate::matching::refuse_other_graph;
 use crate::planned::{Planned, read_plan};
@@ -107,7 +107,7 @@ fn write_report_page<W: Write>(
     ensures page { OnOk result (Sends
         (IsPage words.now planned.now.graph.items planned.now.plan.dag report.now times.now)
         (W.written out.old) (W.written out.new)) }
-    ensures fault { IfErr result IsWritingFault }
+    ensures fault { IfErr result IsWanting }
     ensures left { IfErr result (Leaves (HasHalted (W.failures out.old) (W.failures out.new)
         (W.interruptions out.old) (W.interruptions out.new))
         (IsPage words.now planned.now.graph.items planned.now.plan.dag report.now times.now)

@@ -8,7 +8,7 @@ ghost use Rattle.bf_grid.specs.Grid.{grid_text};
 ghost use Rattle.bf_views.specs.GridFaults.{IsGridFault};
 ghost use Rattle.bf_views.specs.Grids.{IsGridAnswer, is_colored_in, view_asked};
 ghost use Rattle.bf_views.specs.inner.ReadFor.{IsReadForGrid};
-ghost use Rattle.bf_views.specs.inner.Writing.{IsWritingFault};
+ghost use Rattle.bf_planning.specs.Wanting.{IsWanting};
 
 use crate::bounds::Bounds;
 use crate::canvas::Canvas;
@@ -51,7 +51,7 @@ fn view_of(asked: &ShowAsked, bounds: &Bounds, canvas: Canvas) -> View
 }
 
 /// Writes the grid of a report as `view` has it. `Err` where `out` fails, or at want of memory.
-fn write_viewed<W: Write>(
+fn write_view<W: Write>(
     alloc: Global,
     view: &View,
     plan: &Plan,
@@ -60,7 +60,7 @@ fn write_viewed<W: Write>(
 ) -> Result<(), CommandFault>
     ensures grid { OnOk result (W.written out.new
         ≡ sent (W.written out.old) (grid_text view.now plan.now.dag report.now)) }
-    ensures fault { IfErr result IsWritingFault }
+    ensures fault { IfErr result IsWanting }
     ensures left { IfErr result (Leaves (HasHalted (W.failures out.old) (W.failures out.new)
         (W.interruptions out.old) (W.interruptions out.new))
         (λ text. text ≡ grid_text view.now plan.now.dag report.now)
@@ -94,7 +94,7 @@ fn write_grid_if_matching<W: Write>(
         (W.written out.old) (W.written out.new)) }
 {
     refuse_other_graph(alloc, planned.plan.dag(), report)?;
-    write_viewed(alloc, view, &planned.plan, report, out)?;
+    write_view(alloc, view, &planned.plan, report, out)?;
     Ok(Status::Success)
 }
 

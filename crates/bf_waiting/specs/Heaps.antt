@@ -1,4 +1,4 @@
--- What waits, in heaps: which of it is at hand, and what they hold after one more or one fewer.
+-- Heaps of what waits, and their orders.
 use Rattle.std.specs.Prelude.{ℕ, List}
 use Rattle.std.specs.Ordering.{nat_cmp, int_cmp, then_cmp, on}
 use Rattle.std.specs.declared.cmp.Ordering.{Ordering}

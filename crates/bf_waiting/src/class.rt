@@ -309,7 +309,8 @@ impl SlotClass {
     }
 
     /// Adds all instances that a task has in a run: to the batches, and those that wait for a later moment to the
-    /// delays too. `weights` has the total weight of each task.
+    /// delays too. Then takes instances that aren't ready off the front of the batches. `weights` has the total weight
+    /// of each task. At `Err` a part may have been added.
     pub(crate) fn take_up_all(
         &mut self,
         core: &Core<'_>,

@@ -144,7 +144,7 @@ impl Waiting {
         Ok(())
     }
 
-    /// Adds the instances of a task in a run that wait; nothing where there is no such task.
+    /// Adds the instances of a task in a run that wait.
     fn fill_task(&mut self, core: &Core<'_>, run: u32, task: u32) -> Result<(), OutOfMemory>
         requires task { task < length core.now.dag.tasks }
         requires filled { AreFilled core.now self.old run task }
@@ -276,7 +276,7 @@ impl Waiting {
 
 /// The task of which an event may let an instance wait: the one that it decides, or of which it ends a try. None for
 /// other events.
-fn task_let_wait_by(event: &Event) -> Option<u32>
+fn task_to_make_room_for(event: &Event) -> Option<u32>
     ensures { (w : Waiting) → MatchOption result (HasRoomFor event.now w)
         (λ t. HasRoomOf t w → HasRoomFor event.now w) }
 {
@@ -294,7 +294,7 @@ impl Waiting {
         ensures kept { (b : Backfill) → KeepsTries b self.old → KeepsTries b self.new }
         ensures room { OnOk result (HasRoomFor event.now self.new) }
     {
-        let Some(task) = task_let_wait_by(event) else {
+        let Some(task) = task_to_make_room_for(event) else {
             return Ok(());
         };
         self.make_room_of(task)

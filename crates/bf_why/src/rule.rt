@@ -7,7 +7,7 @@ ghost use Rattle.bf_rule.specs.Verdicts.{total_of};
 use crate::counted::counts_text;
 use crate::since::{rule_text, since_text, verdict_text};
 use bf_plan::Plan;
-use bf_reason::{Settled, counts_of_upstreams};
+use bf_reason::{Settled, counts_of_tasks};
 use bf_rule::{Counts, Verdict};
 use bf_value::{OutOfMemory, Text};
 use bf_wording::count_text;
@@ -48,7 +48,7 @@ fn rule_sentence(
 {
     let dag = plan.dag();
     let decided = dag.task(task);
-    let counts = counts_of_upstreams(settled, decided.upstreams.as_slice());
+    let counts = counts_of_tasks(settled, decided.upstreams.as_slice());
     let over = over_instances_text(alloc, &counts)?;
     let since = since_text(alloc, dag, settled, task, verdict)?;
     let (rule, says) = (rule_text(decided.rule), verdict_text(verdict));
@@ -68,7 +68,7 @@ pub(crate) fn ruled_text(
     requires { task < length plan.now.dag.tasks }
     ensures { IfOk result (λ text. text ≡ ruled_text_of plan.now.dag settled.now task verdict) }
 {
-    if plan.dag().task(task).upstreams.len() == 0 {
+    if plan.dag().task(task).upstreams.is_empty() {
         Text::copy_of(alloc, "It has no upstream tasks, so no rule holds it back.")
     } else {
         rule_sentence(alloc, plan, settled, task, verdict)

@@ -135,7 +135,7 @@ pub(crate) fn blocked_task_ids(
 }
 
 /// The end of a sentence on `count` tasks: ` has no status.` for 1, ` have no status.` for any other.
-fn has_no_status_words(count: usize) -> &'static str
+fn no_status_words(count: usize) -> &'static str
     ensures { result.now ≡ (if count == 1 then codes " has no status." else codes
         " have no status.") }
 {
@@ -158,7 +158,7 @@ pub fn no_status_text(alloc: Global, names: &[Text]) -> Result<Text, OutOfMemory
     ensures { IfOk result (λ text. text ≡ have_no_status_of names.now) }
 {
     let listed = name_list(alloc, names)?;
-    let have = has_no_status_words(names.len());
+    let have = no_status_words(names.len());
     Ok(Text::new(format!(in alloc; "{listed}{have}")?))
 }
 

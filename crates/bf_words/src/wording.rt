@@ -21,7 +21,7 @@ fn value_word(alloc: Global, value: &Xval) -> Result<String, OutOfMemory>
 
 /// What was pushed as a word of a command: a text as it stands, any other value as compact JSON; empty where nothing
 /// was pushed.
-fn pushed_word(alloc: Global, value: Option<&Xval>) -> Result<String, OutOfMemory>
+fn value_word_or_empty(alloc: Global, value: Option<&Xval>) -> Result<String, OutOfMemory>
     ensures { IfOk result (λ word. string_bytes word
         ≡ pushed_word_of (option_map (λ v. v.now) value.entry)) }
 {
@@ -80,8 +80,8 @@ fn word_for_try(
     match word {
         Word::Text(text) => Ok(String::from_str(alloc, text.as_str())?),
         Word::Context(variable) => context_word(alloc, *variable, context),
-        Word::Pull(place) => pushed_word(alloc, pulled_at(given, *place)),
-        Word::Item => pushed_word(alloc, item_of(given)),
+        Word::Pull(place) => value_word_or_empty(alloc, pulled_at(given, *place)),
+        Word::Item => value_word_or_empty(alloc, item_of(given)),
     }
 }
 

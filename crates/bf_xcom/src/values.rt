@@ -1,5 +1,6 @@
 //! What a try is given, and what comes of tries.
 ghost use Rattle.std.specs.Prelude.{◌≡◌, ◌↔◌, IfOk, IsTrue, option_copied};
+ghost use Rattle.bf_xcom.specs.Givens.{nothing_given};
 ghost use Rattle.bf_xcom.specs.Pulls.{pushed_by};
 
 use crate::shared_value::SharedValue;
@@ -47,6 +48,23 @@ pub enum RunState {
 }
 
 impl Given {
+    /// Nothing: no item, and nothing pulled. Takes no memory.
+    pub fn nothing(alloc: Global) -> Given
+        ensures { result ≡ nothing_given }
+    {
+        Given {
+            item: None,
+            pulled: Sequence::new(alloc),
+        }
+    }
+
+    /// Whether nothing is given: no item, and nothing pulled.
+    pub fn is_nothing(&self) -> bool
+        ensures { IsTrue result ↔ (self.now ≡ nothing_given) }
+    {
+        self.item.is_none() && self.pulled.is_empty()
+    }
+
     /// Whether two tries were given the same: equal items and pulls.
     pub fn is_same(&self, other: &Given) -> bool
         ensures { IsTrue result ↔ (self.now ≡ other.now) }
@@ -68,7 +86,7 @@ impl Given {
 }
 
 /// Whether both lists have equal values, in the same order.
-fn are_same(one: &[SharedValue], other: &[SharedValue]) -> bool
+pub(crate) fn are_same(one: &[SharedValue], other: &[SharedValue]) -> bool
     ensures { IsTrue result ↔ (one.now ≡ other.now) }
 {
     if one.len() != other.len() {
@@ -125,8 +143,8 @@ impl Outcome {
         }
     }
 
-    /// A copy of the outcome; what was pushed is shared and not copied. Contracts see no sharing.
-    pub fn copy(&self, _alloc: Global) -> Result<Outcome, OutOfMemory>
+    /// The same outcome for one more holder; what was pushed is shared and not copied. Contracts see no sharing.
+    pub fn share(&self) -> Result<Outcome, OutOfMemory>
         ensures { IfOk result (λ outcome. outcome ≡ self.now) }
     {
         match self {

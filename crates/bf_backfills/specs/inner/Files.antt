@@ -31,7 +31,7 @@ IsPreparingFault files asked path seeds range fault =
     × IsOfBytes files asked path (λ graph zone table. IsFaultBefore graph zone table range
     fault))
 
--- so it is; or these have none, they can be read, and what is to be cleared, and the fault is that of the report's file
+-- the fault of preparing; or there is none, they can be read, and what is to be cleared, and the fault is that of the report's file
 abbrev pub IsFaultBeforeClearing : Files → GraphAsked → Option (List ℕ) → UnreadToClear → RunRange
     → List ℕ → CommandFault → Type 0
 IsFaultBeforeClearing files asked path named range report fault =

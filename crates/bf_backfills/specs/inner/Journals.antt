@@ -74,7 +74,7 @@ IsReportOver journals asked before cleared may_answer dag found text success =
 
 -- ---- of `run`
 
--- the report of these bytes, and the first fault of them and of the journal
+-- the first fault of these bytes; or they have none, and it is that of the journal or of the backfill that goes on from it
 abbrev pub IsFaultOfRecorded : Option (List ℕ) → Files → JournalAsked → RunRange → List ℕ
     → Option (List ℕ) → CommandFault → Type 0
 IsFaultOfRecorded logs journals asked range graph zone fault = ListFault graph zone range fault
@@ -82,7 +82,7 @@ IsFaultOfRecorded logs journals asked range graph zone fault = ListFault graph z
     × HasListing graph zone range (Ok found)
     × IsFaultOver journals asked nothing [] logs (dag_of draft) found fault)
 
--- where no journal is named, the first fault of them
+-- the first fault of these bytes and of the backfill; with a journal, that of the recorded one
 abbrev pub IsFaultOfRunBy : LaunchingOf → Losing → Files → Option JournalAsked → RunRange → List ℕ
     → Option (List ℕ) → CommandFault → Type 0
 IsFaultOfRunBy launching may_lose journals None range graph zone fault =
@@ -116,7 +116,7 @@ IsReportAfterBy may_hear journals (Some asked) answers dag found was what text s
     OfJournal journals asked (λ held. IsJournaledAfter may_hear answers dag found was what
     asked.retry_failed held text success)
 
--- and its fault
+-- the fault of the backfill that goes on from a report where this is cleared; where a journal is named, from that first
 abbrev pub IsFaultAfterBy : Bool → LaunchingOf → Losing → Files → Option JournalAsked
     → Option (List TableEntry) → Dag → List Interval → Report → ToClear → CommandFault → Type 0
 IsFaultAfterBy alone launching may_lose journals None answers dag found was what fault =

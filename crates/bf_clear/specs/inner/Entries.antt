@@ -1,4 +1,4 @@
--- The tries that a report tells of.
+-- A report that tells only of tasks and runs that are there.
 use Rattle.std.specs.Prelude.{◌≡◌, ◌<◌, ℕ, ℤ, length, Some}
 use Rattle.bf_plan.specs.declared.plan.Dag.{Dag}
 use Rattle.bf_report.specs.declared.report.InstanceReport.{InstanceReport}

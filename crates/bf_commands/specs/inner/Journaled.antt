@@ -8,6 +8,7 @@ use Rattle.bf_core.specs.declared.fault.BackfillFault.{BackfillFault}
 use Rattle.bf_journal.specs.declared.head.ClearedTask.{ClearedTask}
 use Rattle.bf_journal.specs.Found.{IsFault}
 use Rattle.bf_journal.specs.Heads.{head_text}
+use Rattle.bf_journal.specs.declared.stop.Stop.{Stop}
 use Rattle.bf_dependents.specs.declared.place.Place.{Place}
 use Rattle.bf_command_fault.specs.declared.fault.CommandFault.{CommandFault}
 use Rattle.bf_command_fault.specs.declared.fault.CommandFault.TheVariants.{Journal as BadJournal, OutOfMemory, Stopped}
@@ -36,6 +37,13 @@ abbrev pub IsStopRecordedOrWanting : Option ℕ → Ledger → Option (List ℕ)
 IsStopRecordedOrWanting most kept logs dag intervals (Stopped stop) =
     IsStopRecorded most kept logs dag intervals stop
 IsStopRecordedOrWanting most kept logs dag intervals fault = IsWanting fault
+
+-- what is told of why no further try was begun, with how many tries may fail; nothing where none was held back
+abbrev pub told_of_stop : Option Stop → Option ℕ → Option CommandFault
+told_of_stop (Some Stop.WriteFailed) most = Some (Stopped StopFault.CannotRecord)
+told_of_stop (Some Stop.OutOfMemory) most = Some OutOfMemory
+told_of_stop (Some Stop.EnoughFailed) (Some most) = Some (Stopped (StopFault.EnoughFailed most))
+told_of_stop stop most = None
 
 -- what is told of a try that was given up while tries were recorded: why no further one was begun, or the try
 abbrev pub IsToldAt : Option ℕ → Option (List ℕ) → Dag → List Interval → JobName → CommandFault

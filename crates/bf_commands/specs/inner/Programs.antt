@@ -19,6 +19,20 @@ IsStopOfOrWanting may_give_up logs dag intervals (Stopped stop) =
     IsStopOf may_give_up logs dag intervals stop
 IsStopOfOrWanting may_give_up logs dag intervals fault = IsWanting fault
 
+-- the try is told as given up: its task, its index and its number; or memory is wanting
+abbrev pub IsLost : Dag → JobName → CommandFault → Type 0
+IsLost dag name (Stopped (StopFault.GaveUp task index attempt)) =
+    (task ≡ (task_of dag name.task).id) × (index ≡ name.index) × (attempt ≡ name.attempt)
+IsLost dag name OutOfMemory = Unit {0}
+IsLost dag name fault = ⊥
+
+-- the log of this try is told; or memory is wanting
+abbrev pub IsUnlogged : Option (List ℕ) → Dag → List Interval → JobName → CommandFault → Type 0
+IsUnlogged logs dag intervals name (Stopped (StopFault.CannotLog path)) =
+    IsLogOf logs dag intervals name path
+IsUnlogged logs dag intervals name OutOfMemory = Unit {0}
+IsUnlogged logs dag intervals name fault = ⊥
+
 -- this try is told as given up, or its log; or memory is wanting
 abbrev pub IsGivenUp : Option (List ℕ) → Dag → List Interval → JobName → CommandFault → Type 0
 IsGivenUp logs dag intervals name (Stopped (StopFault.GaveUp task index attempt)) =

@@ -20,7 +20,7 @@ abbrev pub RefusedFor : Type 0 → Type 0 → Illegal → Type 0
 RefusedFor There Due Illegal.Stranger = ¬ There
 RefusedFor There Due Illegal.NotEnabled = There × ¬ Due
 RefusedFor There Due Illegal.NoRoom = ⊥
-RefusedFor There Due Illegal.OutOfMemory = Unit {0}
+RefusedFor There Due Illegal.OutOfMemory = ⊥
 
 -- the instance of that name is there
 pub record IsOfName (dag : Dag) (state : State) (name : JobName)

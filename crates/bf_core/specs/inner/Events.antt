@@ -1,8 +1,6 @@
--- The backfill as a machine of seven events.
+-- Which runs are closed.
 use Rattle.std.specs.Prelude.{Bool, true, false}
 use Rattle.bf_core.specs.Terms.{RunPhase}
-
--- ---- changing a state
 
 abbrev pub is_closed : RunPhase → Bool
 is_closed RunPhase.Closed = true

@@ -1,4 +1,4 @@
--- What is kept of a backfill, so that its next step is at hand.
+-- Which steps an event may make possible, and how an agenda gains and loses steps.
 use Rattle.std.specs.Prelude.{◌≡◌, ◌⊎◌, ℕ, ◌+◌, ◌-◌, ◌<◌, true, List, Contains, IfSome, slice_get, slice_index}
 use Rattle.bf_graph.specs.Edges.{IsUpstream}
 use Rattle.bf_plan.specs.declared.plan.Dag.{Dag}

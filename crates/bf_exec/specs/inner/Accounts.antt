@@ -1,4 +1,4 @@
--- What the lanes and the backfill have in common: the tries that run.
+-- Lanes over which nothing has gone.
 use Rattle.std.specs.Prelude.{◌≡◌, List, [], ◌∷◌}
 use Rattle.bf_lane.specs.Open.{Scheduled, scheduled}
 

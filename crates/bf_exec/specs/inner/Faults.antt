@@ -1,4 +1,4 @@
--- Which halts and faults may be.
+-- The fault that a halt comes to.
 use Rattle.std.specs.Prelude.{◌≡◌}
 use Rattle.bf_core.specs.declared.fault.BackfillFault.{BackfillFault}
 use Rattle.bf_exec.specs.declared.turn_fault.TurnFault.{TurnFault}

@@ -1,4 +1,4 @@
--- What a turn of the executor does.
+-- What a wait ends by, and why a turn halts.
 use Rattle.std.specs.Prelude.{ℤ, ◌≤ℤ◌, List, Option, None, Some}
 use Rattle.bf_try.specs.Asked.{Answered}
 use Rattle.bf_sched.specs.Scheduling.{Schedule}

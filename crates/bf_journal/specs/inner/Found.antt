@@ -1,4 +1,4 @@
--- What is found of a journal.
+-- What is found while a journal is read.
 use Rattle.std.specs.Prelude.{◌<◌, ◌∷◌, ℕ, List, [], length}
 use Rattle.bf_value.specs.declared.name.JobName.{JobName}
 use Rattle.bf_plan.specs.declared.plan.Dag.{Dag}
@@ -17,7 +17,7 @@ AreOfTasks dag (try ∷ tries) = (try.0.task < length dag.tasks) × AreOfTasks d
 
 -- ---- a journal
 
--- the same of the lines behind the head
+-- why the lines behind a journal's head are refused; want of memory says nothing of them
 abbrev pub IsFaultBehind : Dag → List Interval → List ℕ → JournalFault → Type 0
 IsFaultBehind dag intervals bytes (BadRecord number) = IsFirstBad dag intervals bytes number
 IsFaultBehind dag intervals bytes Mismatch = ⊥

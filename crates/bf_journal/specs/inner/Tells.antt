@@ -1,4 +1,4 @@
--- What the lines of a journal tell.
+-- What the fields of a record tell.
 use Rattle.std.specs.Prelude.{◌≡◌, ℕ, ℤ, pos, List, map, position, Option, Some, None, slice_get}
 use Rattle.std.specs.Str.{bytes_eq}
 use Rattle.bf_value.specs.declared.name.JobName.{JobName}

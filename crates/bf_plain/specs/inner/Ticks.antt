@@ -7,6 +7,6 @@ abbrev pub HasTickedSo : Backfill → Type 0
 HasTickedSo backfill =
     TicksToFirstMoments backfill.dag backfill.limits backfill.runs backfill.journal
 
--- where it ticked so before, it has ticked so
+-- where each tick was to a first moment before, each still is
 pub record TicksSo (old new : Schedule) : Type 0 where
   pub so : HasTickedSo old.backfill → HasTickedSo new.backfill

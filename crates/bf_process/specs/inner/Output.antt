@@ -1,4 +1,4 @@
--- What is heard of a program.
+-- How a program ended.
 use Rattle.std.specs.Prelude.{ℤ, Option, None, Some}
 use Rattle.bf_try.specs.declared.answers.Exit.{Exit}
 

@@ -5,11 +5,11 @@ use Rattle.bf_failure.specs.Tried.{try_text_of}
 use Rattle.bf_progress.specs.declared.counts.Counts.{Counts}
 use Rattle.bf_progress.specs.Lines.{counts_text}
 
--- and a line feed
+-- the text of the counts, and a line feed
 abbrev pub counts_line : Counts → List ℕ
 counts_line c = counts_text c ++ codes "\n"
 
--- the same, as it is kept on a terminal: between ESC [ ? 7 l and ESC [ ? 7 h it is cut where the terminal ends, and goes on in no other line
+-- the text of the counts, without a line feed, as it is kept on a terminal: between ESC [ ? 7 l and ESC [ ? 7 h it is cut where the terminal ends, and goes on in no other line
 abbrev pub kept_line : Counts → List ℕ
 kept_line c = 27 ∷ codes "[?7l" ++ (counts_text c ++ (27 ∷ codes "[?7h"))
 

@@ -66,7 +66,7 @@ Steps Step.Taken old text new = IsNext old text new
 Steps Step.End old text new = MayEnd old text × (new ≡ old)
 Steps Step.Refused old text new = ¬ (MayStand old text)
 
--- the same of a line with this id, as that of a task
+-- what comes of a line that begins with this id, read as that of a task
 abbrev pub EntrySteps : Step → ReportSoFar → List ℕ → List ℕ → ReportSoFar → Type 0
 EntrySteps Step.Taken old id text new = IsNext old (id ++ 32 ∷ text) new
 EntrySteps Step.End old id text new = ⊥

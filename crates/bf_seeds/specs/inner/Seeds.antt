@@ -1,4 +1,4 @@
--- Lines of a seeds file, and what they say.
+-- Why a seed is refused.
 use Rattle.std.specs.Prelude.{◌≡◌, List, [], ◌∷◌, Some}
 use Rattle.bf_interval.specs.declared.interval.Interval.{Interval}
 use Rattle.bf_plan.specs.declared.plan.Dag.{Dag}
@@ -14,4 +14,4 @@ abbrev pub IsFaultOfSeed : Dag → List Interval → Seed → SeedsFault → Typ
 IsFaultOfSeed dag intervals seed BadFile = ⊥
 IsFaultOfSeed dag intervals seed (BadSeed line) = ⊥
 IsFaultOfSeed dag intervals seed (Unknown fault) = seed_fault dag intervals (seed ∷ []) ≡ Some fault
-IsFaultOfSeed dag intervals seed OutOfMemory = Unit {0}
+IsFaultOfSeed dag intervals seed OutOfMemory = ⊥

@@ -26,18 +26,21 @@ pattern_of_try named date name =
       attempt = then_some named.attempt (pos name.attempt);
     }
 
--- the patterns of the entries that answer for a try: of each that the try has, an entry names it or names none
+-- these parts, with no try number and with the one that is asked for
 abbrev pub keys_with_index : Pattern → Option ℕ → Option (List ℕ) → Option ℤ → List Pattern
 keys_with_index asked task date index =
     record { task = task; date = date; index = index; attempt = None }
     ∷ record { task = task; date = date; index = index; attempt = asked.attempt } ∷ []
 
+-- this task and date, with no index and with the one that is asked for, and so its try number
 abbrev pub keys_with_date : Pattern → Option ℕ → Option (List ℕ) → List Pattern
 keys_with_date asked task date =
     keys_with_index asked task date None ++ keys_with_index asked task date asked.index
 
+-- this task, with no date and with the one that is asked for, and so its index and try number
 abbrev pub keys_with_task : Pattern → Option ℕ → List Pattern
 keys_with_task asked task = keys_with_date asked task None ++ keys_with_date asked task asked.date
 
+-- the patterns of the entries that answer for a try: of each that the try has, an entry names it or names none
 abbrev pub keys_of : Pattern → List Pattern
 keys_of asked = keys_with_task asked None ++ keys_with_task asked asked.task

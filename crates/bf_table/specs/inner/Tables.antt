@@ -1,4 +1,4 @@
--- What a table of answers says, and what it answers.
+-- What reading a table, or a part of it, comes to.
 use Rattle.std.specs.Prelude.{◌≡◌, ℕ, Option, Some, None, Result, Ok, Err}
 use Rattle.bf_table.specs.declared.table.TableFault.{TableFault}
 use Rattle.bf_table.specs.declared.table.TableFault.TheVariants.{BadTable, OutOfMemory}

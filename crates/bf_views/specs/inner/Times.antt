@@ -7,7 +7,7 @@ use Rattle.bf_command_fault.specs.declared.fault.CommandFault.TheVariants.{Canno
 use Rattle.bf_disk.specs.Files.{AreReadable, Files, IsFirstUntold, IsHeldIfNamed, named_paths}
 use Rattle.bf_views.specs.Times.{IsJournalFault}
 
--- the same of the one that is named, or it can't be read
+-- the fault of the journal that is named, or it can't be read
 abbrev pub IsNamedJournalFault : Files → Option (List ℕ) → Dag → List Interval → CommandFault
     → Type 0
 IsNamedJournalFault files path dag intervals OutOfMemory = Unit {0}

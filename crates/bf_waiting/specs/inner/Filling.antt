@@ -43,7 +43,7 @@ TakesIn backfill weights run task old new =
     → KeepsEarlier backfill weights class_of run task class old
     → KeepsEarlier backfill weights class_of run (task + 1) class new
 
--- each class is
+-- each class is kept for the backfill, as far as the tasks go that come before the task in the run
 pub record AreFilled (backfill : Backfill) (waiting : Waiting) (run task : ℕ) : Type 0 where
   pub weighted : AreWeights backfill.dag backfill.limits waiting.weights.items
   pub one_each : length waiting.class_of.items ≡ length backfill.dag.tasks

@@ -1,4 +1,4 @@
--- What waits, in heaps: which of it is at hand, and what they hold after one more or one fewer.
+-- Which of two batches begins first.
 use Rattle.std.specs.Prelude.{◌≡◌, ◌⊎◌, ◌<◌, ◌≤◌}
 use Rattle.bf_waiting.specs.declared.batches.Batch.{Batch}
 

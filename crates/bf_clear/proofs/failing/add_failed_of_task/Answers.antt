@@ -17,8 +17,8 @@ loop-place-preserved c =
     let few = c.instance_count_at-place-end.ensures.few in
     let low : place < 2_147_483_648 = omega (arith, test, few) in
     let index : to_z w32 place ≡ pos place = to_z_pos w32 place low in
-    let name = ap (λ (n : JobName). failed_at report n.run n.task n.index) c.first_try-in-loop-place.ensures in
+    let name = ap (λ (n : JobName). failed_at report n.run n.task n.index) c.name_of_first_try-in-loop-place.ensures in
     let here = name ∙ ap (failed_at report c.args.run c.args.task) index in
-    c.in_ok-add_failed-2.ensures
-    ∙ (ap (λ xs. xs ++ failed_at report c.first_try-in-loop-place.result.run c.first_try-in-loop-place.result.task c.first_try-in-loop-place.result.index) c.loop-place.invariant
+    c.in_ok-add_if_failed-2.ensures
+    ∙ (ap (λ xs. xs ++ failed_at report c.name_of_first_try-in-loop-place.result.run c.name_of_first_try-in-loop-place.result.task c.name_of_first_try-in-loop-place.result.index) c.loop-place.invariant
     ∙ (ap (λ ys. (before ++ up_to f place) ++ ys) here ∙ up_to_more f before place))

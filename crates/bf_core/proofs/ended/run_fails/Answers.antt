@@ -13,4 +13,4 @@ returns-then-fails_its_run c =
     let cell : c.index-cells-task.result ≡ slice_index_or c.args.cells.now t Cell.Undecided = c.index-cells-task.is ∙ any_default c.args.cells.now t _ Cell.Undecided within in
     let p : ℕ → Bool = λ i. fails_run (is_leaf_in c.args.plan.now.dag i) (value_or_blocked (value_in (slice_index_or c.args.cells.now i Cell.Undecided))) in
     let is : p t ≡ true = sym (ap (λ x. fails_run (is_leaf_in c.args.plan.now.dag t) (value_or_blocked (value_in x))) cell) ∙ sym c.fails_its_run.ensures ∙ c.if-fails_its_run.true in
-    sym (any_at (length c.args.plan.now.dag.tasks) t p (omega (arith, within, c.requires.one_each)) is)
+    sym (any_at (length c.args.plan.now.dag.tasks) t p (omega (arith, within, c.requires)) is)

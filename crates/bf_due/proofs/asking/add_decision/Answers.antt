@@ -4,4 +4,4 @@ use Rattle.bf_due.proofs.asking.add_decision.Goals as goal
 pub returns-in-Some-clause-added : goal.returns-in-Some-clause-added
 returns-in-Some-clause-added c =
     one_added c.args.core.now _ c.in-Some.step _ _ (c.in-Some.ensures {u = tt}).due.0 (λ x of due. just_this c.in-Some.step x ((c.in-Some.ensures {u = tt}).each x of due))
-    c.add.ensures.added c.add.ensures.kept c.add.ensures.only
+    c.add.ensures.gained

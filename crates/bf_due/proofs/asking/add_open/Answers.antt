@@ -3,4 +3,4 @@ use Rattle.bf_due.proofs.Adding.{is_opening, one_added}
 use Rattle.bf_due.proofs.asking.add_open.Goals as goal
 
 pub returns-then-may_open : goal.returns-then-may_open
-returns-then-may_open c = one_added c.args.core.now _ Step.Open _ _ tt (λ x of due. is_opening x of) c.add.ensures.added c.add.ensures.kept c.add.ensures.only
+returns-then-may_open c = one_added c.args.core.now _ Step.Open _ _ tt (λ x of due. is_opening x of) c.add.ensures.gained

@@ -2,5 +2,5 @@ use Rattle.std.proofs.Common.{◌≡◌, ◌++◌, ◌∷◌, [], string_bytes}
 use Rattle.std.specs.List.{repeat}
 use Rattle.bf_explain.proofs.beside.push_spaces.Given as goal
 
-abbrev pub invariant-loop-place : goal.invariant-loop-place
-invariant-loop-place l = string_bytes l.text ≡ string_bytes l.fn.text ++ repeat l.place (32 ∷ [])
+abbrev pub invariant-loop : goal.invariant-loop
+invariant-loop l = string_bytes l.text ≡ string_bytes l.fn.text ++ repeat l.counter (32 ∷ [])

@@ -28,5 +28,5 @@ loop-name-preserved c =
     let rest = c.pop.new.self.items in
     record {
       of_tasks = (tasks_of_rest dag was rest try c.in-Some.ensures.items c.loop-name.invariant.of_tasks).1;
-      left = one_noted dag c.args.tries.items was rest try (map.get c.loop-name.ledger) (map.get c.note_earlier_fit.new.ledger) c.loop-name.invariant.left c.in-Some.ensures.items c.in_ok-note_earlier_fit.ensures;
+      left = one_noted dag c.args.tries.items was rest try (map.get c.loop-name.ledger) (map.get c.note_earlier_fit.new.ledger) c.loop-name.invariant.left c.in-Some.ensures.items c.in_ok-note_earlier_fit.ensures.ok;
     }

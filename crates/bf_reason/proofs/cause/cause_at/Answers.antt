@@ -22,6 +22,6 @@ returns c =
     let seen = seen_among c.args.settled.now in
     let before = before_among c.args.before.now run task in
     c.cause_by_verdict.ensures ∙ ap (λ d. cause_of (cause_by_verdict_of d run seen before task c.verdict-verdict.result)) c.dag.ensures.dag
-    ∙ ap (λ v. cause_of (cause_by_verdict_of dag run seen before task v)) (c.verdict-verdict.ensures ∙ ap (verdict c.task_in-decided.result.now.rule) c.counts_of_upstreams-counts.ensures)
+    ∙ ap (λ v. cause_of (cause_by_verdict_of dag run seen before task v)) (c.verdict-verdict.ensures ∙ ap (verdict c.task_in-decided.result.now.rule) c.counts_of_tasks-counts.ensures)
     ∙ cause_rules dag run c.args.settled.now before task c.task_in-decided.result.now c.as_slice-upstreams.result.now c.task_in-decided.ensures.task c.as_slice-upstreams.ensures
     (sym c.has_skipping_branch.ensures ∙ c.if-has_skipping_branch.false) (sym c.has_blocked_branch.ensures ∙ c.if-has_blocked_branch.false)

@@ -10,6 +10,6 @@ returns-in-Some c =
     let x = c.in-Some.instance in
     let part = c.args.part.now in
     c.instance_may_take-in-Some.ensures
-    ∙ ap (λ given. takes_at c.args.version given x.now part) (c.has_its_item-is_given.ensures ∙ ap (λ t. is_given_task c.args.version (open_by t)) c.in-Mapped.is)
+    ∙ ap (λ given. takes_at c.args.version given x.now part) (c.has_needed_item-is_given.ensures ∙ ap (λ t. is_given_task c.args.version (open_by t)) c.in-Mapped.is)
     ∙ sym (mapped_takes c.args.version xs x.now part (found_last c.last.result c.as_slice.result.now xs x c.as_slice.ensures c.last.ensures.value c.in-Some.is))
     ∙ ap (λ t. takes_task c.args.version (open_by t) part) (sym c.in-Mapped.is)

@@ -8,7 +8,7 @@ pub returns-then-eq-4 : goal.returns-then-eq-4
 returns-then-eq-4 c =
     let word : c.in-Some.first.now ≡ codes "@end" = search (rules, c.if-eq-4.true, c.if-eq-4.ensures) in
     let line : c.args.line.now ≡ codes "@end" ++ 32 ∷ c.in-Some.text.now = c.in-Some.ensures.some ∙ ap (λ w. w ++ 32 ∷ c.in-Some.text.now) word in
-    subst (λ l. Steps c.read_end.result c.args.beginning.now l c.args.beginning.now) (sym line) (end_steps c.args.beginning.now c.in-Some.text.now c.read_end.result c.requires.ruled c.read_end.ensures)
+    subst (λ l. Steps c.end_or_refused.result c.args.beginning.now l c.args.beginning.now) (sym line) (end_steps c.args.beginning.now c.in-Some.text.now c.end_or_refused.result c.requires.ruled c.end_or_refused.ensures)
 
 each_ok : {X E : Type 0} (r : Result X E) (P Q : X → Type 0) → ((x : X) → P x → Q x) → IfOk r P → IfOk r Q
 each_ok (Ok x) P Q from p = from x p

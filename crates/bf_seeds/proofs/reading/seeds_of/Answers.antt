@@ -28,6 +28,6 @@ loop-line-preserved c =
     let test = c.loop-line-test.true in
     let low : i < length texts = omega (arith, test, length-map all (λ (s : Bor (List ℕ)). s.now)) in
     let here : get_or texts i [] ≡ (get_or all i none).now = get_or-map (λ (s : Bor (List ℕ)). s.now) all i none [] test in
-    subst (λ (ss : List Seed). AreSeeds dag c.args.intervals.now (take (i + 1) texts) ss) (sym c.in_ok-add_seed-in-Ok.ensures)
+    subst (λ (ss : List Seed). AreSeeds dag c.args.intervals.now (take (i + 1) texts) ss) (sym c.in_ok-add_seed-in-Ok.ensures.ok)
     (one_line dag c.args.intervals.now texts i c.loop-line.seeds.items c.in-Ok.seed low c.loop-line.invariant
     (subst (λ (t : List ℕ). IsSeedOf dag c.args.intervals.now t c.in-Ok.seed) (sym here) c.in-Ok.ensures.ok))

@@ -23,21 +23,21 @@ returns-in_err-refuse_other_graph-clause-left g c files asked canvas is =
     err_is _ _ _ c.from_residual.ensures.1
     (unwritten_leaves _ _ _ (IsRefusedBy (is_of_graph c.args.planned.now.plan.dag c.args.report.now)) (λ n is. is) _ refused)
 
-pub returns-in_err-write_viewed-clause-fault : goal.returns-in_err-write_viewed-clause-fault
-returns-in_err-write_viewed-clause-fault g c files asked canvas is =
-    err_is _ _ _ c.from_residual-in_err-write_viewed.ensures.1
-    (reported_fault files asked is.bounds is.means _ (writing_fault files asked.graph (string_bytes asked.report) c.args.planned.now c.args.report.now is.plan is.readable is.read _ c.in_err-write_viewed.ensures.fault))
+pub returns-in_err-write_view-clause-fault : goal.returns-in_err-write_view-clause-fault
+returns-in_err-write_view-clause-fault g c files asked canvas is =
+    err_is _ _ _ c.from_residual-in_err-write_view.ensures.1
+    (reported_fault files asked is.bounds is.means _ (writing_fault files asked.graph (string_bytes asked.report) c.args.planned.now c.args.report.now is.plan is.readable is.read _ c.in_err-write_view.ensures.fault))
 
-pub returns-in_err-write_viewed-clause-left : goal.returns-in_err-write_viewed-clause-left
-returns-in_err-write_viewed-clause-left g c files asked canvas is =
+pub returns-in_err-write_view-clause-left : goal.returns-in_err-write_view-clause-left
+returns-in_err-write_view-clause-left g c files asked canvas is =
     let planned = c.args.planned.now in
     let report = c.args.report.now in
     let matches = ap (λ (d : Dag). is_of_graph d report) (sym c.dag.ensures.dag) ∙ c.in_ok-refuse_other_graph.ensures.ok in
-    err_is _ _ _ c.from_residual-in_err-write_viewed.ensures.1
+    err_is _ _ _ c.from_residual-in_err-write_view.ensures.1
     (leaves_due _ _ _ (λ text same. (
       Status.Success,
       grid_answer files asked is.bounds is.means canvas is.ordered planned report is.plan is.readable is.read matches text (same ∙ ap (λ (v : View). grid_text v planned.plan.dag report) is.view_is),
-    )) _ _ _ c.in_err-write_viewed.ensures.left)
+    )) _ _ _ c.in_err-write_view.ensures.left)
 
 pub returns-clause-answer : goal.returns-clause-answer
 returns-clause-answer g c files asked canvas is =
@@ -47,5 +47,5 @@ returns-clause-answer g c files asked canvas is =
     let text : List ℕ = grid_text c.args.view.now planned.plan.dag report in (
       text,
       grid_answer files asked is.bounds is.means canvas is.ordered planned report is.plan is.readable is.read matches text (ap (λ (v : View). grid_text v planned.plan.dag report) is.view_is),
-      c.in_ok-write_viewed.ensures.grid,
+      c.in_ok-write_view.ensures.grid,
     )

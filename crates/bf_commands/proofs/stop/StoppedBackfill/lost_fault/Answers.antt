@@ -6,3 +6,8 @@ pub returns-in-Ok-clause-told : goal.returns-in-Ok-clause-told
 returns-in-Ok-clause-told c =
     let fits : SFits w32 c.args.name.index = search rules in
     (search rules, to_z-of_z w32 c.args.name.index fits, refl)
+
+pub returns-in-Ok-clause-lost : goal.returns-in-Ok-clause-lost
+returns-in-Ok-clause-lost c =
+    let fits : SFits w32 c.args.name.index = search rules in
+    (search rules, to_z-of_z w32 c.args.name.index fits, refl)

@@ -18,6 +18,6 @@ returns c =
     let size : length c.args.self.runs.now ≡ length runs = sym (length-map c.args.self.runs.now (λ (run : Bor RunReport). run.now)) in
     let each = c.div_ceil-each.ensures ∙ ap₂ div_ceil size c.column_count_of.ensures.room in
     let sums = c.in_ok-widths.ensures ∙ ap₂ widths_of c.in_ok-total.ensures c.tally_of_shown_states.ensures in
-    let whole : before ++ table_by view dag runs tasks names widths c.div_ceil-each.result ≡ before ++ table_text view dag runs tasks =
-    ap (λ n. before ++ table_by view dag runs tasks names widths n) each ∙ ap₂ (λ n w. before ++ table_with view dag runs tasks n w) c.name_width-names.ensures.width sums in
+    let whole : before ++ table_by view.colored dag runs tasks names widths c.div_ceil-each.result ≡ before ++ table_text view dag runs tasks =
+    ap (λ n. before ++ table_by view.colored dag runs tasks names widths n) each ∙ ap₂ (λ n w. before ++ table_with view dag runs tasks n w) c.name_width-names.ensures.width sums in
     subst (λ (s : List ℕ). OnOk c.push_table_by.result (c.push_table_by.new.text.items ≡ s)) whole c.push_table_by.ensures

@@ -1,6 +1,0 @@
-use Rattle.std.proofs.Common.{◌≡◌, map, take}
-use Rattle.bf_journal.specs.Heads.{seed_value}
-use Rattle.bf_journal.proofs.head.value_of_seeds.Given as goal
-
-abbrev pub invariant-loop-seed : goal.invariant-loop-seed
-invariant-loop-seed l = l.words.items ≡ map seed_value (take l.seed-index l.seeds)
