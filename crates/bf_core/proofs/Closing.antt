@@ -2,12 +2,13 @@
 use Rattle.std.proofs.Common.{◌≡◌, ◌<◌, ℕ, suc, zero, Bool, true, false, not, ◌&&◌, ◌||◌, if◌then◌else◌, length, ◌+◌, slice_index_or, slice_get, slice_set, List, [], ◌∷◌, Option, None, Some, is_some, option_map, refl, sym, ap, ap₂, ◌∙◌, inl, inr, arith}
 use Rattle.std.specs.List.{list_all, list_any}
 use Rattle.std.proofs.lemmas.Bool.{and_parts}
-use Rattle.bf_core.specs.Terms.{Dag, State, Run, RunPhase, RunState, Cell, Instance, Phase, TaskResult, TaskValue, is_failed}
+use Rattle.bf_core.specs.Terms.{Dag, IsSound, State, Run, RunPhase, RunState, Cell, Instance, Phase, TaskResult, TaskValue, is_failed}
 use Rattle.bf_core.specs.Recursion.{fails_run, any_below, run_state_of}
-use Rattle.bf_core.specs.Events.{no_run, row_of, value_in, phase_in, cell_in, entry_in, HasEnded, results, cons_result, value_or_blocked}
-use Rattle.bf_core.specs.inner.Events.{is_closed}
+use Rattle.bf_core.specs.Events.{no_run, row_of, value_in, phase_in, cell_in, entry_in, HasEnded, results, cons_result}
+use Rattle.bf_core.specs.inner.Events.{is_closed, value_or_blocked}
 use Rattle.bf_core.specs.Agreement.{IsOutcome, AreRunStates}
 use Rattle.bf_core.specs.inner.Checks.{AreStatesOf, row_value}
+use Rattle.bf_core.proofs.Outcomes.{outcome_fails}
 use Rattle.bf_core.proofs.Placing.{any_default}
 use Rattle.bf_core.specs.inner.Words.{is_failed_phase, is_failed_instance, instances_fail}
 use Rattle.bf_core.proofs.Sums.{some_results}
@@ -80,9 +81,9 @@ ended_back s h = closed_back s.runs h
 -- ---- the states of the runs
 
 -- the states by the rows are the recursion's
-pub states_are : (dag : Dag) (runs : ℕ) (s : State) (states : List RunState) → length s.runs ≡ runs → IsOutcome dag runs s → AreStatesOf dag s.runs states → AreRunStates dag (entry_in s.ledger) runs states
+pub states_are : (dag : Dag) → IsSound dag → (runs : ℕ) (s : State) (states : List RunState) → length s.runs ≡ runs → IsOutcome dag runs s → AreStatesOf dag s.runs states → AreRunStates dag (entry_in s.ledger) runs states
 unfolding cell_in
-states_are dag runs s states count is are = (are.0 ∙ count, λ k l. are.1 k (rw count l) ∙ ap (λ b. Some (if b then RunState.Failed else RunState.Success)) (is.run_states k l))
+states_are dag sound runs s states count is are = (are.0 ∙ count, λ k l. are.1 k (rw count l) ∙ ap (λ b. Some (if b then RunState.Failed else RunState.Success)) (outcome_fails dag sound runs s is k l))
 
 set_here : {A : Type 0} (xs : List A) (i : ℕ) (v : A) → i < length xs → slice_get (slice_set xs i v) i ≡ Some v
 set_here [] i v l = absurd (omega (arith, l))

@@ -3,7 +3,7 @@ use Rattle.std.proofs.Common.{◌≡◌, ℕ, suc, zero, ◌+◌, ◌<◌, ◌�
 use Rattle.std.specs.FinMap as map
 use Rattle.bf_core.specs.Terms.{Verdict, Cell, Phase, RunPhase, Run, name_cmp, Dag, task_of, Given, Outcome, Entry, JobName, Ledger, TaskResult, result_of, name_of, outcome_at, outcome_of, last_try, TaskValue, IsOneOf, IsSettledAncestor, Direct, Above, IsSound, State, AreAlike}
 use Rattle.bf_value.specs.inner.Names.{name_cmp_total, name_cmp-IsAntisymmetric}
-use Rattle.bf_core.specs.Deciding.{Seen, settled, Decision, and_then_past, after_verdict, task_verdict_of, decision}
+use Rattle.bf_core.specs.Deciding.{Seen, settled, Decision, past_after, after_verdict, task_verdict_of, decision}
 use Rattle.bf_core.specs.Recursion.{out, before, decided, value_of, results_from, Asks, IsDefined}
 use Rattle.bf_core.proofs.Shape.{IsShaped, row_in}
 use Rattle.bf_core.specs.Events.{HasEnded, no_run, phase_in, cell_in, entry_in, cell_at, place_in}
@@ -30,7 +30,7 @@ ancestor_kept dag Kept closed k t a (Direct w h) kept = closed.up k t a kept h
 ancestor_kept dag Kept closed k t a (Above {u = u} w h above) kept = ancestor_kept dag Kept closed k u a above (closed.up k t u kept h)
 
 -- a task that doesn't depend on its past is decided without it
-past_free : (dag : Dag) (k t : ℕ) (p q : Option TaskValue) (v : Verdict) → (task_of dag t).depends_on_past ≡ false → and_then_past dag k p t v ≡ and_then_past dag k q t v
+past_free : (dag : Dag) (k t : ℕ) (p q : Option TaskValue) (v : Verdict) → (task_of dag t).depends_on_past ≡ false → past_after (task_of dag t).depends_on_past k p v ≡ past_after (task_of dag t).depends_on_past k q v
 past_free dag k t p q Verdict.Run e = rw e
 past_free dag k t p q Verdict.Wait e = refl
 past_free dag k t p q _ e = refl

@@ -3,7 +3,7 @@ use Rattle.std.proofs.Common.{◌≡◌, ◌≢◌, ℕ, ◌&&◌, ◌||◌, not
 use Rattle.std.specs.List.{list_all, AllByRecursion}
 use Rattle.std.proofs.lemmas.Bool.{and_parts}
 use Rattle.bf_core.specs.Terms.{map_index, Dag, Task, task_of, Verdict, is_waiting, Outcome, JobName, name_of, is_failed, TaskValue, State, Cell, Instance, is_branch_in}
-use Rattle.bf_core.specs.Deciding.{Seen, settled, lets_decide_in, upstream_verdict_of, and_then_past, task_verdict_of, decision}
+use Rattle.bf_core.specs.Deciding.{Seen, settled, lets_decide_in, upstream_verdict_of, past_after, task_verdict_of, decision}
 use Rattle.bf_core.specs.Events.{cell_at, put, instance_of, value_in}
 use Rattle.bf_core.proofs.Decisions.{AllKnown}
 use Rattle.bf_core.proofs.Reading.{put_cases}
@@ -24,7 +24,7 @@ lets dag k seen p t decides = go (list_all (lets_decide_in dag (task_of dag t) s
   where
     go : (b : Bool) → list_all (lets_decide_in dag (task_of dag t) seen) (task_of dag t).upstreams ≡ b → list_all (lets_decide_in dag (task_of dag t) seen) (task_of dag t).upstreams ≡ true
     go true e = e
-    go false e = absurd (decides (ap (and_then_past dag k p t) (ruled dag seen t e)))
+    go false e = absurd (decides (ap (past_after (task_of dag t).depends_on_past k p) (ruled dag seen t e)))
 
 pub waited : (dag : Dag) (task : Task) (seen : ℕ → Seen) → is_waiting task.rule ≡ true → (us : List ℕ) → list_all (lets_decide_in dag task seen) us ≡ true → AllKnown seen us
 waited dag task seen w [] e = tt

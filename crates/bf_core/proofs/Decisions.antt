@@ -3,7 +3,7 @@ use Rattle.std.proofs.Common.{◌≡◌, ◌≢◌, ℕ, Bool, true, false, not,
 use Rattle.std.specs.List.{list_any, list_all, AllByRecursion}
 use Rattle.std.proofs.lemmas.Bool.{and_parts, and_from}
 use Rattle.bf_core.specs.Terms.{Dag, Task, task_of, Xval, Verdict, verdict, TaskValue, pull_of, items, is_branch_in}
-use Rattle.bf_core.specs.Deciding.{Seen, lets_decide_in, branch_is, upstream_verdict_of, counts_over, past_ruling, and_then_past, Decision, pull_seen, pulled, instances_of, mapped, after_verdict, task_verdict_of, decision, branch_skips, is_blocked_in}
+use Rattle.bf_core.specs.Deciding.{Seen, lets_decide_in, branch_is, upstream_verdict_of, counts_over, past_verdict_of, past_after, Decision, pull_seen, pulled, instances_of, mapped, after_verdict, task_verdict_of, decision, branch_skips, is_blocked_in}
 use Rattle.bf_rule.specs.Verdicts.{IsLater}
 use Rattle.bf_rule.proofs.Later.{add_later, verdict_stable}
 
@@ -76,20 +76,20 @@ ruling_stable dag a b t later decides =
     (verdict_stable task.rule _ _ (counts_later a b later us))
     decides
 
-past_stable : (a b : Option TaskValue) → StaysKnown a b → past_ruling a ≢ Verdict.Wait → past_ruling a ≡ past_ruling b
+past_stable : (a b : Option TaskValue) → StaysKnown a b → past_verdict_of a ≢ Verdict.Wait → past_verdict_of a ≡ past_verdict_of b
 past_stable None b stays decides = absurd (decides refl)
 past_stable (Some v) b stays decides = rw (stays v refl)
 
 then_past_stable : (dag : Dag) (k t : ℕ) (p q : Option TaskValue) → StaysKnown p q → (v : Verdict) →
-    and_then_past dag k p t v ≢ Verdict.Wait → and_then_past dag k p t v ≡ and_then_past dag k q t v
+    past_after (task_of dag t).depends_on_past k p v ≢ Verdict.Wait → past_after (task_of dag t).depends_on_past k p v ≡ past_after (task_of dag t).depends_on_past k q v
 then_past_stable dag k t p q stays Verdict.Run decides = go ((task_of dag t).depends_on_past && not (k == 0)) decides
   where
-    go : (b : Bool) → (if b then past_ruling p else Verdict.Run) ≢ Verdict.Wait → (if b then past_ruling p else Verdict.Run) ≡ (if b then past_ruling q else Verdict.Run)
+    go : (b : Bool) → (if b then past_verdict_of p else Verdict.Run) ≢ Verdict.Wait → (if b then past_verdict_of p else Verdict.Run) ≡ (if b then past_verdict_of q else Verdict.Run)
     go true d = past_stable p q stays d
     go false d = refl
 then_past_stable dag k t p q stays _ decides = refl
 
-waits_anyway : (dag : Dag) (k t : ℕ) (p : Option TaskValue) (v : Verdict) → v ≡ Verdict.Wait → and_then_past dag k p t v ≡ Verdict.Wait
+waits_anyway : (dag : Dag) (k t : ℕ) (p : Option TaskValue) (v : Verdict) → v ≡ Verdict.Wait → past_after (task_of dag t).depends_on_past k p v ≡ Verdict.Wait
 waits_anyway dag k t p v e = rw e
 
 pub gate_stable : (dag : Dag) (k : ℕ) (a b : ℕ → Seen) (p q : Option TaskValue) (t : ℕ) → ((u : ℕ) → IsSeenLater (a u) (b u)) → StaysKnown p q →
@@ -97,7 +97,7 @@ pub gate_stable : (dag : Dag) (k : ℕ) (a b : ℕ → Seen) (p q : Option TaskV
 unfolding task_verdict_of
 gate_stable dag k a b p q t later stays decides =
     then_past_stable dag k t p q stays (upstream_verdict_of dag a t) decides
-    ∙ ap (and_then_past dag k q t) (ruling_stable dag a b t later (λ e. decides (waits_anyway dag k t p _ e)))
+    ∙ ap (past_after (task_of dag t).depends_on_past k q) (ruling_stable dag a b t later (λ e. decides (waits_anyway dag k t p _ e)))
 
 -- ---- the instances
 

@@ -2,7 +2,7 @@
 use Rattle.std.proofs.Common.{◌≡◌, ℕ, suc, zero, ◌<◌, ◌≤◌, Bool, not, ◌&&◌, ◌||◌, List, [], ◌∷◌, length, map, Option, None, Some, is_some, option_and_then, refl, ap, ap₂, ◌∙◌, arith, inl, inr}
 use Rattle.std.specs.List.{list_any, list_all, AllByRecursion}
 use Rattle.bf_core.specs.Terms.{is_waiting, Dag, Task, task_of, Xval, Verdict, Ledger, TaskValue, pull_of, items, IsOneOf, IsSettledAncestor, Direct, Above, IsSound, add, is_branch_in}
-use Rattle.bf_core.specs.Deciding.{Seen, settled, lets_decide_in, branch_is, branch_skips, is_blocked_in, upstream_verdict_of, counts_over, Decision, pull_seen, pulled, instances_of, mapped, after_verdict, and_then_past, task_verdict_of, decision}
+use Rattle.bf_core.specs.Deciding.{Seen, settled, lets_decide_in, branch_is, branch_skips, is_blocked_in, upstream_verdict_of, counts_over, Decision, pull_seen, pulled, instances_of, mapped, after_verdict, past_after, task_verdict_of, decision}
 use Rattle.bf_core.specs.Recursion.{value_of, out_to, out, before, decided}
 
 -- two sights of the tasks of a list are the same
@@ -59,7 +59,7 @@ pub decision_cong : (dag : Dag) (k : ℕ) (a b : ℕ → Seen) (p : Option TaskV
     SameOn a b (task_of dag t).upstreams → SameOn a b (task_of dag t).pulls → decision dag k a p t ≡ decision dag k b p t
 unfolding decision task_verdict_of
 decision_cong dag k a b p t sound ups pulls =
-    ap (λ v. after_verdict dag a t (and_then_past dag k p t v)) (ruling_cong dag a b t ups)
+    ap (λ v. after_verdict dag a t (past_after (task_of dag t).depends_on_past k p v)) (ruling_cong dag a b t ups)
     ∙ after_cong dag a b t _ pulls (λ s e. ups s (sound.source_is_upstream t s e))
 
 ancestor_below : (dag : Dag) (sound : IsSound dag) (t a : ℕ) → IsSettledAncestor dag t a → sound.rank a < sound.rank t

@@ -5,7 +5,7 @@ use Rattle.bf_rule.specs.Verdicts.{total_of}
 use Rattle.bf_try.specs.Grades.{most_items}
 use Rattle.bf_core.specs.Few.{IsFew}
 use Rattle.bf_core.specs.Terms.{Counts, add, Cell, Instance, Phase, Outcome, TaskValue, TaskResult, Verdict, is_failed}
-use Rattle.bf_core.specs.Deciding.{past_ruling, all_passed}
+use Rattle.bf_core.specs.Deciding.{past_verdict_of, all_passed}
 use Rattle.bf_core.specs.Events.{counts_of_cell, counts_of_instance, counts_of_instances, results, cons_result}
 use Rattle.bf_core.specs.inner.Words.{is_finished, passed, ran_ruling}
 
@@ -59,11 +59,11 @@ passed_results [] (r ∷ rs) e = cc
 passed_results (x ∷ xs) rs e = passed_cons x.attempt x.phase (results xs) _ (passed_results xs) rs e
 
 past_of : (o : Option (List TaskResult)) (f p : Bool) → is_some o ≡ f → ((rs : List TaskResult) → o ≡ Some rs → all_passed rs ≡ p) →
-    past_ruling (option_map TaskValue.Ran o) ≡ (if not f then Verdict.Wait else (if p then Verdict.Run else Verdict.Blocked))
+    past_verdict_of (option_map TaskValue.Ran o) ≡ (if not f then Verdict.Wait else (if p then Verdict.Run else Verdict.Blocked))
 past_of None f p e h = rw (← e)
 past_of (Some rs) f p e h = rw (← e, h rs refl)
 
-pub past_ran : (xs : List Instance) → ran_ruling xs ≡ past_ruling (option_map TaskValue.Ran (results xs))
+pub past_ran : (xs : List Instance) → ran_ruling xs ≡ past_verdict_of (option_map TaskValue.Ran (results xs))
 past_ran xs = sym (past_of (results xs) _ _ (some_results xs) (passed_results xs))
 
 -- ---- a loop over instances

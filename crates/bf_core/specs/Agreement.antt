@@ -2,8 +2,8 @@
 use Rattle.std.specs.Prelude.{◌≡◌, ℕ, suc, ◌<◌, length, List, [], ◌∷◌, map, Some, slice_get}
 use Rattle.bf_core.specs.Terms.{Dag, Given, Entry, JobName, Ledger, RunState, TaskResult, result_of, name_of, State, Cell, Instance, Phase}
 use Rattle.bf_core.specs.Deciding.{Decision}
-use Rattle.bf_core.specs.Recursion.{run_fails_in, run_state_of, out, decided, Asks, IsDefined}
-use Rattle.bf_core.specs.Events.{cell_at, value_in, entry_in, place_in, has_failed}
+use Rattle.bf_core.specs.Recursion.{run_state_of, out, decided, Asks, IsDefined}
+use Rattle.bf_core.specs.Events.{cell_at, entry_in, place_in}
 
 -- the ledger holds all entries of the other
 abbrev pub Holds : Ledger → Ledger → Type 0
@@ -73,16 +73,12 @@ pub record HoldsItsTries (dag : Dag) (runs : ℕ) (ledger : Ledger) : Type 0 whe
   pub defined : IsDefined dag runs ledger
   pub asked : AreAsked dag runs ledger
 
--- the state's ledger holds its tries, and the cells are the values of the recursion over it
+-- the state's ledger holds its tries, and each cell is what the recursion over it makes of its task
 pub record IsOutcome (dag : Dag) (runs : ℕ) (state : State) : Type 0 where
   pub tries : HoldsItsTries dag runs (entry_in state.ledger)
   pub cells : (run task : ℕ) → run < runs → task < length dag.tasks → cell_at state run task
       ≡ final_cell (decided dag (entry_in state.ledger) run task)
       (result_of dag (entry_in state.ledger) run task)
-  pub values : (run task : ℕ) → run < runs → task < length dag.tasks
-      → value_in (cell_at state run task) ≡ Some (out dag (entry_in state.ledger) run task)
-  pub run_states : (run : ℕ) → run < runs → has_failed dag state run
-      ≡ run_fails_in dag (out dag (entry_in state.ledger) run)
 
 -- the states of the runs are the recursion's
 abbrev pub AreRunStates : Dag → Ledger → ℕ → List RunState → Type 0

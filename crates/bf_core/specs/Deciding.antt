@@ -101,19 +101,15 @@ lets_pass_in TaskValue.Skipped = true
 lets_pass_in (TaskValue.Ran results) = all_passed results
 lets_pass_in _ = false
 
-abbrev pub past_ruling : Option TaskValue → Verdict
-past_ruling None = Verdict.Wait
-past_ruling (Some value) = if lets_pass_in value then Verdict.Run else Verdict.Blocked
+abbrev pub past_verdict_of : Option TaskValue → Verdict
+past_verdict_of None = Verdict.Wait
+past_verdict_of (Some value) = if lets_pass_in value then Verdict.Run else Verdict.Blocked
 
 -- where the verdict is run and the task depends on its past, the past decides; nothing is asked of it in the first run
 abbrev pub past_after : Bool → ℕ → Option TaskValue → Verdict → Verdict
 past_after depends run before Verdict.Run =
-    if depends && not (run == 0) then past_ruling before else Verdict.Run
-past_after depends run before ruling = ruling
-
-abbrev pub and_then_past : Dag → ℕ → Option TaskValue → ℕ → Verdict → Verdict
-and_then_past dag run before task ruling =
-    past_after (task_of dag task).depends_on_past run before ruling
+    if depends && not (run == 0) then past_verdict_of before else Verdict.Run
+past_after depends run before by_upstreams = by_upstreams
 
 abbrev pub pull_seen : Dag → (ℕ → Seen) → ℕ → Option Xval
 pull_seen dag seen source = option_and_then (pull_of (task_of dag source)) (seen source).value
@@ -148,7 +144,8 @@ after_verdict dag seen task Verdict.Run =
 
 -- the verdict, with the past
 unfoldable pub task_verdict_of : Dag → ℕ → (ℕ → Seen) → Option TaskValue → ℕ → Verdict
-task_verdict_of dag run seen before task = and_then_past dag run before task (upstream_verdict_of dag seen task)
+task_verdict_of dag run seen before task =
+    past_after (task_of dag task).depends_on_past run before (upstream_verdict_of dag seen task)
 
 -- what is decided of the task in the run
 unfoldable pub decision : Dag → ℕ → (ℕ → Seen) → Option TaskValue → ℕ → Decision

@@ -2,8 +2,8 @@
 ghost use Rattle.std.specs.Prelude.{◌≡◌, ◌<◌, ◌↔◌, length, slice_index_or, ℕ, vec_len, IsTrue, IfOk, IfErr, OnOk};
 ghost use Rattle.std.specs.List.{list_any, list_all};
 ghost use Rattle.bf_core.specs.Recursion.{is_leaf_in, fails_run, run_fails_in, run_state_of};
-ghost use Rattle.bf_core.specs.Events.{value_in, value_or_blocked, row_of, HasEnded};
-ghost use Rattle.bf_core.specs.inner.Events.{is_closed};
+ghost use Rattle.bf_core.specs.Events.{value_in, row_of, HasEnded};
+ghost use Rattle.bf_core.specs.inner.Events.{is_closed, value_or_blocked};
 ghost use Rattle.bf_core.specs.inner.Words.{is_failed_instance, instances_fail};
 ghost use Rattle.bf_core.specs.Endings.{IsEnd, ending_of};
 ghost use Rattle.bf_core.specs.inner.Checks.{AreStatesOf};

@@ -4,7 +4,7 @@ ghost use Rattle.bf_core.specs.Cores.{deciding};
 
 use bf_try::Outcome;
 use bf_value::{JobName, OutOfMemory};
-use std::alloc::AllocError;
+use std::alloc::{AllocError, Global};
 use thiserror::Error;
 
 /// What may happen next in a backfill.
@@ -38,8 +38,8 @@ impl Event {
         }
     }
 
-    /// The same event for one more holder; what was pushed is shared and not copied. Contracts see no sharing.
-    pub fn share(&self) -> Result<Event, OutOfMemory>
+    /// A copy of the event; what was pushed is shared and not copied. Contracts see no sharing.
+    pub fn copy(&self, alloc: Global) -> Result<Event, OutOfMemory>
         ensures { IfOk result (λ event. event ≡ self.now) }
     {
         Ok(match self {
@@ -53,7 +53,7 @@ impl Event {
                 task: *task,
             },
             Event::Begin(name) => Event::Begin(*name),
-            Event::End(name, outcome) => Event::End(*name, outcome.share()?),
+            Event::End(name, outcome) => Event::End(*name, outcome.copy(alloc)?),
             Event::Close { run } => Event::Close { run: *run },
             Event::Tick { moment } => Event::Tick { moment: *moment },
         })

@@ -2,7 +2,7 @@
 ghost use Rattle.std.specs.Prelude.{◌≡◌};
 ghost use Rattle.std.specs.List.{list_all};
 ghost use Rattle.bf_core.specs.Events.{value_in, cell_at, before_in};
-ghost use Rattle.bf_core.specs.Deciding.{past_ruling, past_after};
+ghost use Rattle.bf_core.specs.Deciding.{past_verdict_of, past_after};
 ghost use Rattle.bf_core.specs.inner.Words.{passed, ran_ruling};
 
 use crate::state::{Cell, Instance, Phase, State, are_finished};
@@ -47,7 +47,7 @@ impl Cell {
     /// settled, to run where the task was skipped or ran without a failure, else blocked.
     #[tactic(auto, using(crate::proofs::Sums::past_ran))]
     fn past_verdict(&self) -> Verdict
-        ensures { result ≡ past_ruling (value_in self.now) }
+        ensures { result ≡ past_verdict_of (value_in self.now) }
     {
         match self {
             Cell::Undecided => Verdict::Wait,
@@ -61,7 +61,7 @@ impl Cell {
 /// The verdict on a task that depends on its past, in the run after `run`, by its cell in `run`; to wait where `run` or
 /// the task isn't there.
 fn past_verdict(state: &State, run: u32, task: u32) -> Verdict
-    ensures { result ≡ past_ruling (value_in (cell_at state.now run task)) }
+    ensures { result ≡ past_verdict_of (value_in (cell_at state.now run task)) }
 {
     match state.cell(run, task) {
         Some(cell) => cell.past_verdict(),

@@ -178,7 +178,8 @@ fn any_branch_is_blocked(dag: &Dag, state: &State, run: u32, upstreams: &[u32]) 
 pub(crate) fn upstream_verdict(plan: &Plan, state: &State, run: u32, task: u32) -> Verdict
     requires task { task < length plan.now.dag.tasks }
     requires few { AreFew state.now }
-    ensures { result ≡ upstream_verdict_of plan.now.dag (λ u. seen_in (cell_at state.now run u)) task }
+    ensures { result ≡ upstream_verdict_of plan.now.dag
+        (λ u. seen_in (cell_at state.now run u)) task }
 {
     let dag = plan.dag();
     let decided = dag.task(task);

@@ -10,7 +10,7 @@ use Rattle.bf_core.specs.declared.state.Instance.{Instance}
 use Rattle.bf_core.specs.declared.state.Phase.{Phase}
 use Rattle.bf_core.specs.declared.event.Event.{Event}
 use Rattle.bf_core.specs.declared.decision.Decision.{Decision}
-use Rattle.bf_core.specs.Deciding.{Seen, after_verdict, and_then_past, branch_is, branch_skips, counts_over, decision, task_verdict_of, is_blocked_in, lets_decide_in, one_blocked, one_of, one_skipped, one_unfinished, one_upstream_failed, upstream_verdict_of}
+use Rattle.bf_core.specs.Deciding.{Seen, after_verdict, past_after, branch_is, branch_skips, counts_over, decision, task_verdict_of, is_blocked_in, lets_decide_in, one_blocked, one_of, one_skipped, one_unfinished, one_upstream_failed, upstream_verdict_of}
 use Rattle.bf_core.specs.Events.{after, before_in, cell_at, cell_of, change_at, change_instance, cons_result, counts_of_cell, counts_of_instance, counts_of_instances, decision_in, ended, fresh, instance_of, place_in, put, results, seen_in, value_in, IsDecidable, IsEnabled}
 use Rattle.bf_core.proofs.Instances.{instance_here}
 use Rattle.bf_core.proofs.Reading.{put_cases}
@@ -211,7 +211,7 @@ none_if : (o : Option TaskValue) → is_some o ≡ false → o ≡ None
 none_if None e = refl
 none_if (Some v) e = cc
 
-past_awaited : (dag : Dag) (s : State) (k t : ℕ) → is_past_known_in dag s k t ≡ false → (v : Verdict) → (v ≡ Verdict.Run) ⊎ (v ≡ Verdict.Wait) → and_then_past dag k (before_in s k t) t v ≡ Verdict.Wait
+past_awaited : (dag : Dag) (s : State) (k t : ℕ) → is_past_known_in dag s k t ≡ false → (v : Verdict) → (v ≡ Verdict.Run) ⊎ (v ≡ Verdict.Wait) → past_after (task_of dag t).depends_on_past k (before_in s k t) v ≡ Verdict.Wait
 past_awaited dag s k t unaware v (inr e) = rw e
 past_awaited dag s k t unaware v (inl e) =
     let depends : (task_of dag t).depends_on_past ≡ true = not-false _ (or_parts _ _ unaware).0 in
@@ -335,7 +335,7 @@ module _ (dag : Dag) (limits : Limits) (s : State) (e : Event) (able : IsEnabled
     unfolding decision_in decision task_verdict_of now
     not_decided unaware only due =
         let waits : task_verdict_of dag n.run now (before_in (after dag s e) n.run t) t ≡ Verdict.Wait =
-        ap (and_then_past dag n.run (before_in (after dag s e) n.run t) t) only ∙
+        ap (past_after (task_of dag t).depends_on_past n.run (before_in (after dag s e) n.run t)) only ∙
         past_awaited dag (after dag s e) n.run t unaware (verdict (task_of dag t).rule (counts_over now (task_of dag t).upstreams)) (early_or (task_of dag t).rule (counts_over now (task_of dag t).upstreams) now_open) in
         due.decides (ap (after_verdict dag now t) waits)
 

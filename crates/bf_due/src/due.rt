@@ -62,7 +62,8 @@ fn names_no_stranger(core: &Core<'_>, event: &Event) -> bool
     }
 }
 
-/// A law: every task of a core's plan has a rank.
+/// A law: every task of a core's plan has a rank, at most the number of tasks, and ranks rise along edges. It is
+/// `Graph::tasks_have_ranks`, said of the plan's graph.
 fn tasks_have_ranks(core: &Core<'_>)
     ensures { Ranking (shape_of core.now.dag).upstreams }
 {

@@ -51,10 +51,11 @@ impl<'a, R> AnswerAtOnce for ByWorkers<'a, R> {
 /// A kept try is answered at once, and so is any other where the runner answers at once. Where memory is wanting for
 /// that, or the runner gives the try up, a worker is to make it.
 impl<'a, K: KeptTries, R: TaskRunner> AnswerAtOnce for Keeping<'a, K, R> {
+    ghost use Rattle.std.specs.Prelude.{◌≡◌, true};
     ghost use Rattle.bf_kept.specs.Kept.{IsAnswer};
 
     ghost may_answer_at_once = { λ s n g raw. IsAnswer (K.kept s.kept.now)
-        (R.may_answer s.runner.now) n g raw };
+        (λ m h r. (s.at_once ≡ true) × R.may_answer s.runner.now m h r) n g raw };
 
     /// Answers a kept try so that it ends as it did before, and any other where the runner answers at once. `Err` hands
     /// the ticket back for any other, where the runner gives the try up, and at want of memory.

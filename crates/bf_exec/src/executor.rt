@@ -221,7 +221,7 @@ impl<'s, K: Service + Send + Sync + 's> Executor<'s, K> {
                 }
             }
             Next::Wait => {
-                let until = scheduler.next_moment();
+                let until = scheduler.pending();
                 self.wait_and_end_try(rt, until, scheduler, watch)?;
                 Ok(true)
             }

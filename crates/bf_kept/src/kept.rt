@@ -60,7 +60,7 @@ impl KeptTries for Ledger {
         given: &Given,
     ) -> Result<Option<Raw>, OutOfMemory> {
         match self.get(name) {
-            Some(entry) if entry.given.is_given(given) => {
+            Some(entry) if entry.given.is_same_as(given) => {
                 Ok(Some(answer_for(alloc, &entry.outcome)?))
             }
             _ => Ok(None),

@@ -18,7 +18,8 @@ pub trait TimeSource {
     fn now(&mut self) -> i64
         ensures { last self.new ≡ result };
 
-    /// Sleeps until `sleep` is woken, or until the moment `until`, in seconds since 1970. It may wake sooner.
+    /// Sleeps until `sleep` is woken, or until the moment `until`, in seconds since 1970. It may
+    /// wake sooner.
     fn pause<W: Wait>(&mut self, rt: &W, sleep: &Parker, until: i64);
 }
 

@@ -36,7 +36,7 @@ impl<K: Service> Model for Closed<K> {
 
 impl<K: Service> Closed<K> {
     /// A closed lane, by the passes to its two queues, of jobs and of results: what was put into each and taken out.
-    pub fn from_passes(jobs: QueuePass<Job>, results: QueuePass<Reply<K>>) -> Closed<K>
+    pub(crate) fn from_passes(jobs: QueuePass<Job>, results: QueuePass<Reply<K>>) -> Closed<K>
         ensures jobs { (result.submitted ≡ (view jobs).put) × (result.taken ≡ (view jobs).taken) }
         ensures results { (result.sent ≡ (view results).put)
             × (result.gathered ≡ (view results).taken) }

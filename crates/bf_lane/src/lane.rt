@@ -154,14 +154,14 @@ impl<'s, K: Service + Send + Sync + 's> Lane<'s, K> {
     }
 
     /// Whether an answer of the worker is awaited.
-    pub fn is_busy(&self) -> bool
+    pub(crate) fn is_busy(&self) -> bool
         ensures { result ≡ awaits self.now }
     {
         self.is_busy
     }
 
     /// Submits a try to the worker, from which no answer is awaited yet.
-    pub fn submit<W: Wait>(&mut self, rt: &W, ticket: Ticket)
+    pub(crate) fn submit<W: Wait>(&mut self, rt: &W, ticket: Ticket)
         requires { awaits self.old ≡ false }
         ensures { self.new ≡ scheduled (self.old.submitted ++ TheVariants.Run ticket ∷ [])
             self.old.gathered }
@@ -172,7 +172,7 @@ impl<'s, K: Service + Send + Sync + 's> Lane<'s, K> {
     }
 
     /// Takes the worker's answer; None where none is awaited, or it isn't there yet. Never waits.
-    pub fn try_gather(&mut self) -> Option<Answer>
+    pub(crate) fn try_gather(&mut self) -> Option<Answer>
         ensures some { IfSome result (λ a. self.new
             ≡ scheduled self.old.submitted (self.old.gathered ++ a ∷ [])) }
         ensures allowed { IfSome result (IsAllowedBy K.answers K.gives_up) }
@@ -187,7 +187,7 @@ impl<'s, K: Service + Send + Sync + 's> Lane<'s, K> {
     }
 
     /// Stops the worker, waits until its thread has ended, and takes what it left in its queues.
-    pub fn close<W: Threads + Wait>(self, rt: &W) -> Closed<K>
+    pub(crate) fn close<W: Threads + Wait>(self, rt: &W) -> Closed<K>
         ensures submitted { result.submitted ≡ self.entry.submitted ++ TheVariants.Stop ∷ [] }
         ensures gathered { StartsWith result.gathered self.entry.gathered }
         ensures closed { IsClosed K.answers K.gives_up result }

@@ -75,7 +75,7 @@ impl<'s, K: Service + Send + Sync + 's> Lanes<'s, K> {
     }
 
     /// How many lanes there are.
-    pub fn len(&self) -> usize
+    fn len(&self) -> usize
         ensures { result ≡ length self.now }
     {
         self.lanes.len()

@@ -26,9 +26,9 @@ pub struct Seats<K: Service> {
 
 /// The promise of a worker that it serves these queues.
 #[derive(Drop)]
-pub struct Serves<'s, K: Service> {
-    pub queues: &'s Queues<K>,
-    pub of: PhantomData<K>,
+pub(crate) struct Serves<'s, K: Service> {
+    pub(crate) queues: &'s Queues<K>,
+    pub(crate) of: PhantomData<K>,
 }
 
 impl<'s, K: Service> Promise<(QueuePass<Job>, QueuePass<Reply<K>>)> for Serves<'s, K> {

@@ -24,7 +24,7 @@ impl<T> Protocol<T, Log<T>> for InOrder {
 }
 
 /// Splits a pass into one that puts, and a new one that takes.
-pub struct Apart;
+pub(crate) struct Apart;
 
 impl<T> Split<Log<T>> for Apart {
     ghost use Rattle.std.specs.Prelude.{true, false, []};
@@ -36,7 +36,7 @@ impl<T> Split<Log<T>> for Apart {
 }
 
 /// Joins the pass that takes to the one that puts, which then does both.
-pub struct Together;
+pub(crate) struct Together;
 
 impl<T> Join<Log<T>> for Together {
     ghost use Rattle.std.specs.Prelude.{true, false, []};
@@ -48,7 +48,7 @@ impl<T> Join<Log<T>> for Together {
 }
 
 /// What a pass knows once it has put a value in.
-pub struct Put;
+pub(crate) struct Put;
 
 impl<T> Outcome<T, Log<T>> for Put {
     ghost use Rattle.std.specs.Prelude.{◌≡◌, ◌++◌, ◌∷◌, []};
@@ -58,7 +58,7 @@ impl<T> Outcome<T, Log<T>> for Put {
 }
 
 /// What a pass knows once it has taken a value out, or found none; and what one learns that puts and takes.
-pub struct Taken;
+pub(crate) struct Taken;
 
 impl<T> Outcome<T, Log<T>> for Taken {
     ghost use Rattle.std.specs.Prelude.{◌≡◌, ◌++◌, ◌∷◌, []};

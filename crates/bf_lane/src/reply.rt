@@ -30,7 +30,7 @@ impl<K: Service> Model for Reply<K> {
 
 impl<K: Service> Reply<K> {
     /// A reply with this answer, which the lane's service must allow.
-    pub fn new(answer: Answer) -> Reply<K>
+    pub(crate) fn new(answer: Answer) -> Reply<K>
         requires { IsAllowedBy K.answers K.gives_up answer }
         ensures { result ≡ answer }
     {
@@ -41,7 +41,7 @@ impl<K: Service> Reply<K> {
     }
 
     /// The answer in the reply.
-    pub fn into_answer(self) -> Answer
+    pub(crate) fn into_answer(self) -> Answer
         ensures same { result ≡ self }
         ensures allowed { IsAllowedBy K.answers K.gives_up result }
     {

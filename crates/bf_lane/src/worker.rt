@@ -17,7 +17,12 @@ use std::sync::Wait;
 use std::thread::{self, Parker};
 
 /// Puts a value into the queue `line` by the pass `seat`; waits while the queue is full.
-pub fn wait_and_put<W: Wait, T>(rt: &W, line: &RuledQueue<T>, seat: &mut QueuePass<T>, value: T)
+pub(crate) fn wait_and_put<W: Wait, T>(
+    rt: &W,
+    line: &RuledQueue<T>,
+    seat: &mut QueuePass<T>,
+    value: T,
+)
     requires seat { IsPassOf line.now seat.old }
     requires puts { (view seat.old).puts ≡ true }
     ensures seat { IsSamePass seat.old seat.new }
@@ -38,7 +43,7 @@ pub fn wait_and_put<W: Wait, T>(rt: &W, line: &RuledQueue<T>, seat: &mut QueuePa
 }
 
 /// Takes a value out of the queue `line` by the pass `seat`; sleeps on `called` until there is one.
-pub fn wait_and_take<W: Wait, T>(
+fn wait_and_take<W: Wait, T>(
     rt: &W,
     line: &RuledQueue<T>,
     called: &Parker,
@@ -73,18 +78,18 @@ fn answer_to<K: Service, R: TaskRunner>(runner: &R, ticket: Ticket) -> Reply<K>
 
 /// Where a worker finds jobs and leaves answers.
 #[derive(Drop)]
-pub struct Desk<'d, K: Service> {
-    pub jobs: &'d RuledQueue<Job>,
-    pub results: &'d RuledQueue<Reply<K>>,
+pub(crate) struct Desk<'d, K: Service> {
+    pub(crate) jobs: &'d RuledQueue<Job>,
+    pub(crate) results: &'d RuledQueue<Reply<K>>,
     /// The worker sleeps on it while there is no job.
-    pub called: &'d Parker,
+    pub(crate) called: &'d Parker,
     /// The scheduler sleeps on it while there is no answer.
-    pub answered: &'d Parker,
+    pub(crate) answered: &'d Parker,
 }
 
 /// Answers the jobs of a lane by the runner, until one says to stop, and wakes the scheduler behind each answer.
 /// `takes` and `sends`, the worker's passes to the queues of jobs and of results, are given back.
-pub fn serve<K: Service, W: Wait, R: TaskRunner>(
+pub(crate) fn serve<K: Service, W: Wait, R: TaskRunner>(
     rt: &W,
     desk: Desk<'_, K>,
     mut takes: QueuePass<Job>,

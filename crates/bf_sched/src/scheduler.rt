@@ -113,7 +113,7 @@ fn grade_answer(alloc: Global, core: &Core<'_>, done: &Done) -> Result<Outcome, 
         return Err(Illegal::Stranger);
     }
     if let Some(instance) = core.running_instance(name) {
-        if !instance.given.is_given(done.given()) {
+        if !instance.given.is_same_as(done.given()) {
             return Err(Illegal::Stranger);
         }
     }
@@ -147,7 +147,7 @@ impl<'a> Scheduler<'a> {
     }
 
     /// The earliest moment still to come for which a try waits, in seconds since 1970; None where no try waits for one.
-    pub fn next_moment(&self) -> Option<i64>
+    pub fn pending(&self) -> Option<i64>
         ensures { IsNextMoment self.now.backfill result }
     {
         self.ready.next_moment()

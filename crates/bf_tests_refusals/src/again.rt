@@ -41,7 +41,7 @@ fn see(scheduler: &Scheduler<'_>) -> Seen {
         events: scheduler.journal().len(),
         running: scheduler.running(),
         ended: scheduler.core().is_ended(),
-        pending: scheduler.next_moment(),
+        pending: scheduler.pending(),
     }
 }
 

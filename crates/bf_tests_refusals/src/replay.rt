@@ -14,9 +14,9 @@ fn core_again<'a>(alloc: Global, plan: &'a Plan, runs: &Runs) -> Result<Core<'a>
     Core::new(alloc, plan, runs).ok().ok_or(RefusalFault::Twice)
 }
 
-/// The same event once more; `Twice` where it has too many holders.
-fn share(event: &Event) -> Result<Event, RefusalFault> {
-    event.share().ok().ok_or(RefusalFault::Twice)
+/// A copy of an event; `Twice` where what it pushed has too many holders.
+fn copy_of(alloc: Global, event: &Event) -> Result<Event, RefusalFault> {
+    event.copy(alloc).ok().ok_or(RefusalFault::Twice)
 }
 
 /// A journal, and two cores to which its events come, `behind` after `core`.
@@ -37,14 +37,14 @@ impl<'a, 'b> Cores<'a, 'b> {
     /// Lets an event come to `core`, a second time where that finds no memory. `Changed` where the refused call changed
     /// the core, `Twice` where the second fails too, `Stopped` where the event is refused for another cause.
     fn apply(&mut self, alloc: Global, event: &Event) -> Result<(), RefusalFault> {
-        match self.core.apply(share(event)?) {
+        match self.core.apply(copy_of(alloc, event)?) {
             Ok(()) => Ok(()),
             Err(Illegal::OutOfMemory) => {
                 if !self.are_level() {
                     return Err(RefusalFault::Changed);
                 }
                 self.core
-                    .apply(share(event)?)
+                    .apply(copy_of(alloc, event)?)
                     .ok()
                     .ok_or(RefusalFault::Twice)
             }
@@ -54,11 +54,11 @@ impl<'a, 'b> Cores<'a, 'b> {
 
     /// Lets an event come to `behind`, a second time where it is refused; `Twice` where the second is refused too.
     fn catch_up(&mut self, alloc: Global, event: &Event) -> Result<(), RefusalFault> {
-        if self.behind.apply(share(event)?).is_ok() {
+        if self.behind.apply(copy_of(alloc, event)?).is_ok() {
             return Ok(());
         }
         self.behind
-            .apply(share(event)?)
+            .apply(copy_of(alloc, event)?)
             .ok()
             .ok_or(RefusalFault::Twice)
     }

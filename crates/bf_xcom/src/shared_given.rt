@@ -94,7 +94,7 @@ impl SharedGiven {
     }
 
     /// Whether this is the same as `given`: equal items and pulls.
-    pub fn is_given(&self, given: &Given) -> bool
+    pub fn is_same_as(&self, given: &Given) -> bool
         ensures { IsTrue result ↔ (self.now ≡ given.now) }
     {
         is_same_option(self.item(), given.item.as_ref())

@@ -4,7 +4,8 @@ use Rattle.bf_core.specs.Terms.{Dag, State, Cell, Phase, Run, RunPhase, RunState
 use Rattle.bf_core.specs.declared.names.Unfinished.{Unfinished}
 use Rattle.bf_core.specs.declared.event.Illegal.{Illegal}
 use Rattle.bf_core.specs.Recursion.{run_state_of}
-use Rattle.bf_core.specs.Events.{value_in, value_or_blocked, row_of, cell_at, phase_of, instance_of, place_in}
+use Rattle.bf_core.specs.Events.{value_in, row_of, cell_at, phase_of, instance_of, place_in}
+use Rattle.bf_core.specs.inner.Events.{value_or_blocked}
 
 -- each run has a cell for each task
 abbrev pub HasRows : Dag → State → Type 0

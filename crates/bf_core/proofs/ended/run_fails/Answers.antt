@@ -1,7 +1,8 @@
 use Rattle.std.proofs.Common.{◌≡◌, ◌<◌, ℕ, Bool, true, length, slice_index_or, sym, ap, ◌∙◌, arith}
 use Rattle.bf_core.specs.Terms.{Cell}
 use Rattle.bf_core.specs.Recursion.{fails_run, is_leaf_in}
-use Rattle.bf_core.specs.Events.{value_or_blocked, value_in}
+use Rattle.bf_core.specs.Events.{value_in}
+use Rattle.bf_core.specs.inner.Events.{value_or_blocked}
 use Rattle.bf_core.proofs.Closing.{any_at}
 use Rattle.bf_core.proofs.Placing.{any_default}
 use Rattle.bf_core.proofs.ended.run_fails.Goals as goal

@@ -29,7 +29,7 @@ invariant_of-result c =
     record {
       closed = closed;
       outcome = outcome;
-      run_states = rw c.from_vec.ensures (states_are inside.plan.now.dag inside.runs inside.state _ count outcome are);
+      run_states = rw c.from_vec.ensures (states_are inside.plan.now.dag replayed.sound inside.runs inside.state _ count outcome are);
       journal = subst (λ (es : List Event). IsJournal inside.plan.now.dag inside.plan.now.limits inside.runs es inside.state) (sym c.from_vec-2.ensures) replayed.by_journal;
       pools = subst (λ (es : List Event). KeepsPools inside.plan.now.dag inside.plan.now.limits inside.runs es) (sym c.from_vec-2.ensures) pools;
     }
