@@ -24,9 +24,9 @@ const SKIPPED: u8 = 99;
 /// task isn't expanded.
 #[derive(Clone, Copy)]
 pub(crate) struct InstanceName<'a> {
-    pub run: &'a str,
-    pub task: &'a str,
-    pub index: Option<usize>,
+    pub(crate) run: &'a str,
+    pub(crate) task: &'a str,
+    pub(crate) index: Option<usize>,
 }
 
 /// Adds a map index in decimal; -1 for None.

@@ -26,9 +26,9 @@ use Rattle.bf_disk.specs.Files.{AreReadable, Files, IsHeld, IsReadable}
 use Rattle.bf_input.specs.Inputs.{OfFilesAndNamedTable}
 use Rattle.bf_input.specs.inner.Inputs.{IsReadOf}
 use Rattle.bf_backfills.specs.Commands.{IsClearAnswer, IsClearPlanAnswer, IsClearReportBy, IsLaunchable, Machine, MeansCleared, MeansRange, OfClearFiles, OfJournal, Startable, clear_input, first_paths, launcher_used_of, launching_asked_of, plan_input}
-use Rattle.bf_backfills.specs.CommandFaults.{CanClear, GoesWrongOver, IsClearFault, IsClearFaultBy, IsClearPlanFault, IsFaultOfClear, IsFaultOfClearing, IsRecordedClearFault}
+use Rattle.bf_backfills.specs.CommandFaults.{CanClear, GoesWrongOver, IsClearFault, IsClearFaultBy, IsClearPlanFault, IsFaultOfClearAsked, IsFaultOfClearInput, IsRecordedClearFault}
 use Rattle.bf_backfills.specs.inner.CommandFaults.{IsFaultOfAsked, IsFaultOfLauncher}
-use Rattle.bf_backfills.specs.inner.Named.{IsFaultOfMeaning}
+use Rattle.bf_backfills.specs.inner.Named.{IsFaultOfTextsAsked}
 use Rattle.bf_backfills.specs.inner.Files.{IsOfBytes}
 use Rattle.bf_backfills.specs.inner.Journals.{GoesWrongAfter, IsFaultAfterBy, IsReportAfterBy}
 use Rattle.bf_backfills.proofs.ClearInputs.{prepared_held, ready, uncleared}
@@ -45,7 +45,7 @@ clear_unasked may_lose files machine asked OutOfMemory is = (is.0, is.1, go aske
     go (Some journal) = tt
 clear_unasked may_lose files machine asked fault is = absurd is
 
-pub asked_unmeant : (startable : Startable) (asked : ClearAsked) (fault : CommandFault) → IsFaultOfMeaning asked.range asked.cleared fault → IsFaultOfAsked startable asked fault
+pub asked_unmeant : (startable : Startable) (asked : ClearAsked) (fault : CommandFault) → IsFaultOfTextsAsked asked.range asked.cleared fault → IsFaultOfAsked startable asked fault
 asked_unmeant startable asked (CannotLaunch path) is = absurd is
 asked_unmeant startable asked fault is = is
 
@@ -55,7 +55,7 @@ asked_unlaunched startable asked range means (CannotLaunch path) is = is
 asked_unlaunched startable asked range means OutOfMemory is = (range, means)
 asked_unlaunched startable asked range means fault is = absurd is
 
-pub plan_unmeant : (files : Files) (asked : ClearPlanAsked) (fault : CommandFault) → IsFaultOfMeaning asked.range asked.cleared fault → IsClearPlanFault files asked fault
+pub plan_unmeant : (files : Files) (asked : ClearPlanAsked) (fault : CommandFault) → IsFaultOfTextsAsked asked.range asked.cleared fault → IsClearPlanFault files asked fault
 plan_unmeant files asked BadMoment is = is
 plan_unmeant files asked OutOfMemory is = (is.0, is.1, tt)
 plan_unmeant files asked fault is = absurd is
@@ -64,16 +64,16 @@ plan_unmeant files asked fault is = absurd is
 
 module _ (may_lose : Losing) (files : Files) (machine : Machine) (asked : ClearAsked) (range : RunRange) (means : MeansRange asked.range range) where
   -- a fault that comes before a journal is opened is the same where one is named
-  before_journal : (fault : CommandFault) → (IsFaultOfClearing files (clear_input asked) range fault → IsFaultOfClear may_lose files asked range fault)
-      → ((journal : JournalAsked) → IsFaultOfClearing files (clear_input asked) range fault → IsRecordedClearFault files machine.journals asked journal range fault)
-      → IsFaultOfClearing files (clear_input asked) range fault → IsClearFaultBy may_lose files machine.journals asked asked.journal range fault
+  before_journal : (fault : CommandFault) → (IsFaultOfClearInput files (clear_input asked) range fault → IsFaultOfClearAsked may_lose files asked range fault)
+      → ((journal : JournalAsked) → IsFaultOfClearInput files (clear_input asked) range fault → IsRecordedClearFault files machine.journals asked journal range fault)
+      → IsFaultOfClearInput files (clear_input asked) range fault → IsClearFaultBy may_lose files machine.journals asked asked.journal range fault
   before_journal fault unrecorded recorded is = go asked.journal
     where
       go : (journal : Option JournalAsked) → IsClearFaultBy may_lose files machine.journals asked journal range fault
       go None = unrecorded is
       go (Some journal) = recorded journal is
 
-  pub of_clearing : (fault : CommandFault) → IsFaultOfClearing files (clear_input asked) range fault → IsClearFault may_lose files machine asked fault
+  pub of_clearing : (fault : CommandFault) → IsFaultOfClearInput files (clear_input asked) range fault → IsClearFault may_lose files machine asked fault
   of_clearing (Read fault) is = (range, means, before_journal (Read fault) (λ i. i) (λ j i. i) is)
   of_clearing (Check fault) is = (range, means, before_journal (Check fault) (λ i. i) (λ j i. i) is)
   of_clearing (Table fault) is = (range, means, before_journal (Table fault) (λ i. i) (λ j i. i) is)
@@ -249,7 +249,7 @@ module _ (may_lose : Losing) (files : Files) (machine : Machine) (asked : ClearA
 -- ---- where it is only told
 
 module _ (files : Files) (asked : ClearPlanAsked) (range : RunRange) (means : MeansRange asked.range range) where
-  pub of_planning : (fault : CommandFault) → IsFaultOfClearing files (plan_input asked) range fault → IsClearPlanFault files asked fault
+  pub of_planning : (fault : CommandFault) → IsFaultOfClearInput files (plan_input asked) range fault → IsClearPlanFault files asked fault
   of_planning BadMoment is = absurd is
   of_planning fault is = (range, means, is)
 

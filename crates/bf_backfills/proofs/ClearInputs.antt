@@ -24,7 +24,7 @@ use Rattle.bf_disk.specs.Files.{AreReadable, Files, IsHeld, IsHeldIfNamed, IsRea
 use Rattle.bf_disk.specs.Source.{IsWholeUpTo}
 use Rattle.bf_input.specs.Inputs.{AreAlike, IsReportFault, OfFilesAndNamedTable, clear_paths}
 use Rattle.bf_backfills.specs.Commands.{ClearInput, MeanSeeds, MeansCleared, first_paths, seeds_named}
-use Rattle.bf_backfills.specs.CommandFaults.{IsFaultOfClearing, OfReadClearFiles}
+use Rattle.bf_backfills.specs.CommandFaults.{IsFaultOfClearInput, OfReadClearFiles}
 use Rattle.bf_backfills.specs.declared.named.UnreadToClear.{UnreadToClear}
 use Rattle.bf_backfills.specs.declared.named.UnreadToClear.TheVariants as naming
 use Rattle.bf_backfills.specs.inner.Named.{IsReadFor, MeansNamed, path_of}
@@ -146,7 +146,7 @@ module _ (files : Files) (input : ClearInput) (range : RunRange) where
       before_alike said.graph graph said.zone held same.0 said.table other same.1 range fault said.holds
 
   before_report : (fault : CommandFault) → AreReadable files (first_paths input)
-      → IsOfBytes files input.graph input.table (λ graph zone table. IsFaultBefore graph zone table range fault) → IsFaultOfClearing files input range fault
+      → IsOfBytes files input.graph input.table (λ graph zone table. IsFaultBefore graph zone table range fault) → IsFaultOfClearInput files input range fault
   before_report (Read fault) readable said = (readable, before_held (Read fault) said)
   before_report (Check fault) readable said = (readable, before_held (Check fault) said)
   before_report (Table fault) readable said = (readable, before_held (Table fault) said)
@@ -155,8 +155,8 @@ module _ (files : Files) (input : ClearInput) (range : RunRange) where
   before_report fault readable said = absurd said.holds
 
   -- a fault before the report is read is the command's
-  preparing : (fault : CommandFault) → IsPreparingFault files input.graph input.table (seeds_named input.cleared) range fault → IsFaultOfClearing files input range fault
-  preparing fault (inl reading) = reading_cases files (first_paths input) (IsFaultOfClearing files input range) tt (λ path unread. inl unread) fault reading
+  preparing : (fault : CommandFault) → IsPreparingFault files input.graph input.table (seeds_named input.cleared) range fault → IsFaultOfClearInput files input range fault
+  preparing fault (inl reading) = reading_cases files (first_paths input) (IsFaultOfClearInput files input range) tt (λ path unread. inl unread) fault reading
   preparing fault (inr (readable, said)) = before_report fault readable said
 
   ready_held : IsOfBytes files input.graph input.table (λ graph zone table. IsReady graph zone table range) → OfFilesAndNamedTable files input.graph input.table (λ graph held other. IsReady graph held other range)
@@ -165,7 +165,7 @@ module _ (files : Files) (input : ClearInput) (range : RunRange) where
       ready_alike said.graph graph said.zone held same.0 said.table other same.1 range said.holds
 
   unreported : AreReadable files (first_paths input) → (what : ToClear) → MeansCleared files input.cleared what → IsOfBytes files input.graph input.table (λ graph zone table. IsReady graph zone table range)
-      → (fault : CommandFault) → IsReportFault input.report (files input.report) fault → IsFaultOfClearing files input range fault
+      → (fault : CommandFault) → IsReportFault input.report (files input.report) fault → IsFaultOfClearInput files input range fault
   unreported readable what means_what said (Report report.Io) is = absurd is
   unreported readable what means_what said (Report fault) is = (readable, is.0, what, means_what, λ graph held other are holds reported told. (ready_held said graph held other are holds, is.1 reported told))
   unreported readable what means_what said OutOfMemory is = tt
@@ -194,7 +194,7 @@ module _ (files : Files) (input : ClearInput) (range : RunRange) where
             (record { ready = ready graph held other are holds; was = was; report_says = says reported told; fault_is = is }),
       )
 
-      pub uncleared : (fault : CommandFault) → IsUncleared dag found was what fault → IsFaultOfClearing files input range fault
+      pub uncleared : (fault : CommandFault) → IsUncleared dag found was what fault → IsFaultOfClearInput files input range fault
       uncleared (Clear fault) is = unclearable (Clear fault) is
       uncleared (Seeds fault) is = unclearable (Seeds fault) is
       uncleared OutOfMemory is = tt
@@ -206,6 +206,6 @@ module _ (files : Files) (input : ClearInput) (range : RunRange) where
     named_readable readable = subst (λ (o : Option (List ℕ)). AreReadable files (clear_paths input.graph input.table o)) (path_named input.cleared named means_named) readable
 
     -- a fault of the files is the command's
-    pub named_reading : (fault : CommandFault) → IsFaultBeforeClearing files input.graph input.table named range input.report fault → IsFaultOfClearing files input range fault
+    pub named_reading : (fault : CommandFault) → IsFaultBeforeClearing files input.graph input.table named range input.report fault → IsFaultOfClearInput files input range fault
     named_reading fault (inl is) = preparing fault (subst (λ (o : Option (List ℕ)). IsPreparingFault files input.graph input.table o range fault) (path_named input.cleared named means_named) is)
     named_reading fault (inr (readable, said, (what, read), is)) = unreported (named_readable readable) what (read_means files input.cleared named what means_named read) said fault is

@@ -37,7 +37,7 @@ use Rattle.bf_input.specs.Moments.{Means}
 use Rattle.bf_backfills.specs.Commands.{IsCheckAnswer, IsDryAnswer, IsLaunchable, IsListAnswer, IsRunAnswer, IsRunReportBy, IsSingleAnswer, Machine, MeansRange, OfJournal, launching_asked_of, size_text}
 use Rattle.bf_backfills.specs.CommandFaults.{IsCheckFault, IsDryFault, IsListFault, HasRuns, IsRecordedRunFault, IsRunFault, IsRunFaultBy, IsSingleFault}
 use Rattle.bf_backfills.specs.inner.CommandFaults.{IsFaultOfLauncher}
-use Rattle.bf_backfills.specs.inner.Journals.{IsFaultOfRecorded, IsFaultOfRunBy, IsFaultOver}
+use Rattle.bf_backfills.specs.inner.Journals.{IsFaultOfJournaledBackfill, IsFaultOfReadRun, IsFaultOfRecordedRun}
 use Rattle.bf_backfills.proofs.Alike.{dry_fault, fault_in, graph_of, journaled_report, list_fault, list_of, listing_of, report_at, report_in, run_fault, run_report, single_fault, size_of}
 
 -- ---- what was read
@@ -236,7 +236,7 @@ module _ {files : Files} (machine : Machine) (asked : RunAsked) (range : RunRang
     }
 
     over_journal : (fault : CommandFault) (draft : Draft) (found : List Interval) → IsGraph read zone draft → HasListing read zone range (Ok found)
-        → IsFaultOver machine.journals journal nothing [] (option_map string_bytes asked.logs) (dag_of draft) found fault → IsRecordedRunFault (option_map string_bytes asked.logs) files machine.journals asked.graph journal range fault
+        → IsFaultOfJournaledBackfill machine.journals journal nothing [] (option_map string_bytes asked.logs) (dag_of draft) found fault → IsRecordedRunFault (option_map string_bytes asked.logs) files machine.journals asked.graph journal range fault
     over_journal (CannotRead path) draft found graph_is listing is = inr (bytes.readable, is.0, is.1, has_runs found listing)
     over_journal JournalInUse draft found graph_is listing is = (bytes.readable, is, has_runs found listing)
     over_journal (CannotWriteFile path) draft found graph_is listing is = (bytes.readable, is, has_runs found listing)
@@ -255,22 +255,22 @@ module _ {files : Files} (machine : Machine) (asked : RunAsked) (range : RunRang
     before_journal OutOfMemory is = tt
     before_journal fault is = absurd is
 
-    recorded : (fault : CommandFault) → IsFaultOfRecorded (option_map string_bytes asked.logs) machine.journals journal range read zone fault → IsRecordedRunFault (option_map string_bytes asked.logs) files machine.journals asked.graph journal range fault
+    recorded : (fault : CommandFault) → IsFaultOfRecordedRun (option_map string_bytes asked.logs) machine.journals journal range read zone fault → IsRecordedRunFault (option_map string_bytes asked.logs) files machine.journals asked.graph journal range fault
     recorded fault (inl is) = before_journal fault is
     recorded fault (inr (draft, found, graph_is, listing, is)) = over_journal fault draft found graph_is listing is
 
-    no_moment : IsFaultOfRecorded (option_map string_bytes asked.logs) machine.journals journal range read zone BadMoment → ⊥
+    no_moment : IsFaultOfRecordedRun (option_map string_bytes asked.logs) machine.journals journal range read zone BadMoment → ⊥
     no_moment (inl is) = is
     no_moment (inr is) = is.4
 
-    no_launcher : (path : List ℕ) → IsFaultOfRecorded (option_map string_bytes asked.logs) machine.journals journal range read zone (CannotLaunch path) → ⊥
+    no_launcher : (path : List ℕ) → IsFaultOfRecordedRun (option_map string_bytes asked.logs) machine.journals journal range read zone (CannotLaunch path) → ⊥
     no_launcher path (inl is) = is
     no_launcher path (inr is) = is.4
 
     as_recorded : (may_lose : Losing) (fault : CommandFault) → IsRecordedRunFault (option_map string_bytes asked.logs) files machine.journals asked.graph journal range fault → IsRunFaultBy (launching_asked_of asked.launcher asked.logs) may_lose files machine.journals asked.graph asked.journal range fault
     as_recorded may_lose fault is = subst (λ (o : Option JournalAsked). IsRunFaultBy (launching_asked_of asked.launcher asked.logs) may_lose files machine.journals asked.graph o range fault) (sym named) is
 
-    recorded_files : (may_lose : Losing) (fault : CommandFault) → IsFaultOfRecorded (option_map string_bytes asked.logs) machine.journals journal range read zone fault → IsRunFault may_lose files machine asked fault
+    recorded_files : (may_lose : Losing) (fault : CommandFault) → IsFaultOfRecordedRun (option_map string_bytes asked.logs) machine.journals journal range read zone fault → IsRunFault may_lose files machine asked fault
     recorded_files may_lose BadMoment is = absurd (no_moment is)
     recorded_files may_lose (CannotLaunch path) is = absurd (no_launcher path is)
     recorded_files may_lose fault is = (range, means, as_recorded may_lose fault (recorded fault is))
@@ -286,10 +286,10 @@ module _ {files : Files} (machine : Machine) (asked : RunAsked) (range : RunRang
       go (Some journal) named is = recorded_answer journal named may_hear text success is
 
   pub run_files_by : (launching : LaunchingOf) → launching ≡ launching_asked_of asked.launcher asked.logs → (may_lose : Losing) (fault : CommandFault)
-      → IsFaultOfRunBy launching may_lose machine.journals asked.journal range read zone fault → IsRunFault may_lose files machine asked fault
+      → IsFaultOfReadRun launching may_lose machine.journals asked.journal range read zone fault → IsRunFault may_lose files machine asked fault
   run_files_by launching same may_lose fault is =
-      go asked.journal refl (subst (λ (l : LaunchingOf). IsFaultOfRunBy l may_lose machine.journals asked.journal range read zone fault) same is)
+      go asked.journal refl (subst (λ (l : LaunchingOf). IsFaultOfReadRun l may_lose machine.journals asked.journal range read zone fault) same is)
     where
-      go : (o : Option JournalAsked) → asked.journal ≡ o → IsFaultOfRunBy (launching_asked_of asked.launcher asked.logs) may_lose machine.journals o range read zone fault → IsRunFault may_lose files machine asked fault
+      go : (o : Option JournalAsked) → asked.journal ≡ o → IsFaultOfReadRun (launching_asked_of asked.launcher asked.logs) may_lose machine.journals o range read zone fault → IsRunFault may_lose files machine asked fault
       go None none is = run_files none may_lose fault is
       go (Some journal) named is = recorded_files journal named may_lose fault is

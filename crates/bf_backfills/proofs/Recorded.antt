@@ -28,7 +28,7 @@ use Rattle.bf_planning.specs.Clocks.{AreClocksOf}
 use Rattle.bf_commands.specs.Programs.{Hearing, HearingTries, launched_by}
 use Rattle.bf_disk.specs.Files.{Files}
 use Rattle.bf_backfills.specs.Commands.{OfJournal}
-use Rattle.bf_backfills.specs.inner.Journals.{IsFaultOfRecorded, IsFaultOver, IsReportAfterBy, IsReportOver, journaled_fault}
+use Rattle.bf_backfills.specs.inner.Journals.{IsFaultOfJournaledBackfill, IsFaultOfRecordedRun, IsReportAfterBy, IsReportOver, journaled_fault}
 
 module _ (journals : Files) (asked : JournalAsked) (held : List ℕ) (is_held : OfJournal journals asked (λ told. held ≡ told)) (before : Ledger) (cleared : Heading) (dag : Dag) (found : List Interval) where
   module _ (logs : Option (List ℕ)) where
@@ -37,7 +37,7 @@ module _ (journals : Files) (asked : JournalAsked) (held : List ℕ) (is_held : 
     as_told fault is told holds = subst (λ (h : List ℕ). JournalReportFault asked.stop_after before asked.retry_failed h cleared logs dag found fault) (is_held told holds) is
 
     -- the fault is told with the journal's path
-    pub over : (fault : CommandFault) → JournalReportFault asked.stop_after before asked.retry_failed held cleared logs dag found fault → IsFaultOver journals asked before cleared logs dag found (journaled_fault (string_bytes asked.path) fault)
+    pub over : (fault : CommandFault) → JournalReportFault asked.stop_after before asked.retry_failed held cleared logs dag found fault → IsFaultOfJournaledBackfill journals asked before cleared logs dag found (journaled_fault (string_bytes asked.path) fault)
     over (Journal fault) is = as_told (Journal fault) is
     over (Stopped StopFault.CannotRecord) is = refl
     over (Stopped StopFault.CannotStart) is = as_told (Stopped StopFault.CannotStart) is
@@ -85,12 +85,12 @@ module _ (journals : Files) (asked : JournalAsked) (held : List ℕ) (is_held : 
         (λ text due. (due.0, as_asked text due.0 due.1)) went went_after fault left)
 
   pub fault_over : (logs : Option (List ℕ)) (most : Option ℕ) → most ≡ asked.stop_after → (path : List ℕ) → path ≡ string_bytes asked.path → (fault : CommandFault) → report ≡ Err fault
-      → IfErr report (JournalReportFault most before retry held cleared logs dag found) → IsFaultOver journals asked before cleared logs dag found (journaled_fault path fault)
+      → IfErr report (JournalReportFault most before retry held cleared logs dag found) → IsFaultOfJournaledBackfill journals asked before cleared logs dag found (journaled_fault path fault)
   fault_over logs most is_most path is_path fault is err =
       let since : JournalReportFault most before retry held cleared logs dag found fault = subst (λ (r : Result Bool CommandFault). IfErr r (JournalReportFault most before retry held cleared logs dag found)) is err in
       let by_most = subst (λ (m : Option ℕ). JournalReportFault m before retry held cleared logs dag found fault) is_most since in
       let by_retry = subst (λ (r : Bool). JournalReportFault asked.stop_after before r held cleared logs dag found fault) is_retry by_most in
-      subst (λ (p : List ℕ). IsFaultOver journals asked before cleared logs dag found (journaled_fault p fault)) (sym is_path) (over journals asked held is_held before cleared dag found logs fault by_retry)
+      subst (λ (p : List ℕ). IsFaultOfJournaledBackfill journals asked before cleared logs dag found (journaled_fault p fault)) (sym is_path) (over journals asked held is_held before cleared dag found logs fault by_retry)
 
 -- ---- the runs of a range
 
@@ -119,9 +119,9 @@ module _ {graph : List ℕ} {file : Option (List ℕ)} {plan : Checked} (range :
   }
 
   -- and so is the fault
-  pub run_fault : (logs : Option (List ℕ)) (r : Result Bool CommandFault) → IfErr r (IsFaultOver journals asked nothing [] logs plan.dag found) → IfErr r (IsFaultOfRecorded logs journals asked range graph file)
+  pub run_fault : (logs : Option (List ℕ)) (r : Result Bool CommandFault) → IfErr r (IsFaultOfJournaledBackfill journals asked nothing [] logs plan.dag found) → IfErr r (IsFaultOfRecordedRun logs journals asked range graph file)
   run_fault logs r = IfErr-weaker r _ _ (λ fault over.
-      inr (is.draft, found, is.graph_is, listing, subst (λ (d : Dag). IsFaultOver journals asked nothing [] logs d found fault) is.dag over))
+      inr (is.draft, found, is.graph_is, listing, subst (λ (d : Dag). IsFaultOfJournaledBackfill journals asked nothing [] logs d found fault) is.dag over))
 
 -- ---- a report where some tasks are cleared
 

@@ -147,41 +147,41 @@ LacksReport files input range path =
 -- a file can't be read, the first of those that are read before anything is looked at; or these can be read, and the fault is the first
 -- of the graph, the table and the range; or these have none, and the report can't be read; or it can be, and the fault is its own, or
 -- of what is to be cleared
-abbrev pub IsFaultOfClearing : Files → ClearInput → RunRange → CommandFault → Type 0
-IsFaultOfClearing files input range (CannotRead path) =
+abbrev pub IsFaultOfClearInput : Files → ClearInput → RunRange → CommandFault → Type 0
+IsFaultOfClearInput files input range (CannotRead path) =
     IsFirstUntold files (first_paths input) path ⊎ LacksReport files input range path
-IsFaultOfClearing files input range (NotRead fault) =
+IsFaultOfClearInput files input range (NotRead fault) =
     IsFaultBeforeReport files input range (NotRead fault)
-IsFaultOfClearing files input range (NotSound fault) =
+IsFaultOfClearInput files input range (NotSound fault) =
     IsFaultBeforeReport files input range (NotSound fault)
-IsFaultOfClearing files input range (BadTable fault) =
+IsFaultOfClearInput files input range (BadTable fault) =
     IsFaultBeforeReport files input range (BadTable fault)
-IsFaultOfClearing files input range (BadRange fault) =
+IsFaultOfClearInput files input range (BadRange fault) =
     IsFaultBeforeReport files input range (BadRange fault)
-IsFaultOfClearing files input range (BadReport ReportFault.Io) = ⊥
-IsFaultOfClearing files input range (BadReport fault) =
+IsFaultOfClearInput files input range (BadReport ReportFault.Io) = ⊥
+IsFaultOfClearInput files input range (BadReport fault) =
     OfReadClearFiles files input (λ what graph zone table report.
     IsReady graph zone table range × TellsFault report fault)
-IsFaultOfClearing files input range (NotCleared fault) =
+IsFaultOfClearInput files input range (NotCleared fault) =
     OfReadClearFiles files input (λ what graph zone table report.
     IsUnclearable graph zone table report range what (NotCleared fault))
-IsFaultOfClearing files input range (BadSeeds fault) =
+IsFaultOfClearInput files input range (BadSeeds fault) =
     OfReadClearFiles files input (λ what graph zone table report.
     IsUnclearable graph zone table report range what (BadSeeds fault))
-IsFaultOfClearing files input range (CannotWrite n) =
+IsFaultOfClearInput files input range (CannotWrite n) =
     AreReadable files (first_paths input) × IsReadable (files input.report)
-IsFaultOfClearing files input range OutOfMemory = Unit {0}
-IsFaultOfClearing files input range fault = ⊥
+IsFaultOfClearInput files input range OutOfMemory = Unit {0}
+IsFaultOfClearInput files input range fault = ⊥
 
 -- the fault of clearing; or there is none, and it is what stops the backfill
-abbrev pub IsFaultOfClear : Losing → Files → ClearAsked → RunRange → CommandFault → Type 0
-IsFaultOfClear may_lose files asked range (Stopped stop) =
+abbrev pub IsFaultOfClearAsked : Losing → Files → ClearAsked → RunRange → CommandFault → Type 0
+IsFaultOfClearAsked may_lose files asked range (Stopped stop) =
     OfReadClearFiles files (clear_input asked) (λ what graph zone table report.
     StopsClearing (is_single_threaded_in asked.progress)
     (launching_asked_of asked.launcher asked.logs) may_lose graph zone table report range what
     stop)
-IsFaultOfClear may_lose files asked range fault =
-    IsFaultOfClearing files (clear_input asked) range fault
+IsFaultOfClearAsked may_lose files asked range fault =
+    IsFaultOfClearInput files (clear_input asked) range fault
 
 -- nothing keeps this from being cleared in the report
 abbrev pub CanClear : Files → ClearAsked → RunRange → Type 0
@@ -204,7 +204,7 @@ GoesWrongOver files journals asked journal range fault =
 abbrev pub IsRecordedClearFault : Files → Files → ClearAsked → JournalAsked → RunRange
     → CommandFault → Type 0
 IsRecordedClearFault files journals asked journal range (CannotRead path) =
-    IsFaultOfClearing files (clear_input asked) range (CannotRead path)
+    IsFaultOfClearInput files (clear_input asked) range (CannotRead path)
     ⊎ ((path ≡ string_bytes journal.path) × IsUnopened journals journal
     × CanClear files asked range)
 IsRecordedClearFault files journals asked journal range JournalInUse =
@@ -217,12 +217,12 @@ IsRecordedClearFault files journals asked journal range (Stopped StopFault.Canno
 IsRecordedClearFault files journals asked journal range (Stopped stop) =
     GoesWrongOver files journals asked journal range (Stopped stop)
 IsRecordedClearFault files journals asked journal range fault =
-    IsFaultOfClearing files (clear_input asked) range fault
+    IsFaultOfClearInput files (clear_input asked) range fault
 
 abbrev pub IsClearFaultBy : Losing → Files → Files → ClearAsked → Option JournalAsked → RunRange
     → CommandFault → Type 0
 IsClearFaultBy may_lose files journals asked None range fault =
-    IsFaultOfClear may_lose files asked range fault
+    IsFaultOfClearAsked may_lose files asked range fault
 IsClearFaultBy may_lose files journals asked (Some journal) range fault =
     IsRecordedClearFault files journals asked journal range fault
 
@@ -241,4 +241,4 @@ abbrev pub IsClearPlanFault : Files → ClearPlanAsked → CommandFault → Type
 IsClearPlanFault files asked BadMoment = IsNoStarts asked.range.starts ⊎ HasNoMoment asked.cleared
 IsClearPlanFault files asked fault =
     (range : RunRange) × MeansRange asked.range range
-    × IsFaultOfClearing files (plan_input asked) range fault
+    × IsFaultOfClearInput files (plan_input asked) range fault

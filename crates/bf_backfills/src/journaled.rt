@@ -9,7 +9,7 @@ ghost use Rattle.bf_commands.specs.Cleared.{MayAnswerBy};
 ghost use Rattle.bf_commands.specs.Programs.{launched_in};
 ghost use Rattle.bf_backfills.specs.Commands.{IsRunReportBy, OfJournal};
 ghost use Rattle.bf_input.specs.Inputs.{bytes_of};
-ghost use Rattle.bf_backfills.specs.inner.Journals.{IsFaultOfOpening, IsFaultOfRecorded, IsFaultOfRunBy, IsFaultOver, IsReportOver, journaled_fault, of_open};
+ghost use Rattle.bf_backfills.specs.inner.Journals.{IsFaultOfJournaledBackfill, IsFaultOfOpening, IsFaultOfReadRun, IsFaultOfRecordedRun, IsReportOver, journaled_fault, of_open};
 
 use bf_command_fault::{CommandFault, StopFault};
 use bf_command_line::JournalAsked;
@@ -112,8 +112,8 @@ where
         (MayAnswer (launched_in dated.now (launching_of crew.now.launching)
         (RT.may_hear crew.now.rt.now)) dated.now.plan.dag dated.now.runs)
         dated.now.plan.dag dated.now.runs text success) (W.written out.old) (W.written out.new)) }
-    ensures fault { IfErr result (IsFaultOver (J.journal journals.now) asked nothing []
-        (launching_of crew.now.launching).logs dated.now.plan.dag dated.now.runs) }
+    ensures fault { IfErr result (IsFaultOfJournaledBackfill (J.journal journals.now) asked nothing
+        [] (launching_of crew.now.launching).logs dated.now.plan.dag dated.now.runs) }
     ensures left { IfErr result (Leaves (HasHalted (W.failures out.old) (W.failures out.new)
         (W.interruptions out.old) (W.interruptions out.new))
         (λ text. (success : Bool) × IsReportOver (J.journal journals.now) asked nothing []
@@ -149,7 +149,7 @@ where
         (J.journal journals.now) (Some asked) range files.now.graph.items
         (bytes_of files.now.zone_file) text success)
         (W.written out.old) (W.written out.new)) }
-    ensures fault { IfErr result (IsFaultOfRecorded (launching_of crew.now.launching).logs
+    ensures fault { IfErr result (IsFaultOfRecordedRun (launching_of crew.now.launching).logs
         (J.journal journals.now) asked range
         files.now.graph.items (bytes_of files.now.zone_file)) }
     ensures left { IfErr result (Leaves (HasHalted (W.failures out.old) (W.failures out.new)
@@ -184,7 +184,7 @@ where
         (J.journal journals.now) journal range files.now.graph.items (bytes_of files.now.zone_file)
         text success)
         (W.written out.old) (W.written out.new)) }
-    ensures fault { IfErr result (IsFaultOfRunBy (launching_of crew.now.launching)
+    ensures fault { IfErr result (IsFaultOfReadRun (launching_of crew.now.launching)
         (RT.may_lose crew.now.rt.now)
         (J.journal journals.now) journal range files.now.graph.items
         (bytes_of files.now.zone_file)) }
@@ -225,7 +225,7 @@ where
         clearing.now.dated.now.runs)
         clearing.now.dated.now.plan.dag clearing.now.dated.now.runs text success)
         (W.written out.old) (W.written out.new)) }
-    ensures fault { IfErr result (IsFaultOver (J.journal journals.now) asked
+    ensures fault { IfErr result (IsFaultOfJournaledBackfill (J.journal journals.now) asked
         (kept_in clearing.now.kept) clearing.now.cleared.items
         (launching_of crew.now.launching).logs
         clearing.now.dated.now.plan.dag clearing.now.dated.now.runs) }

@@ -65,8 +65,8 @@ pub(crate) fn tells_asked<RT: Screen>(
     progress: bool,
     has_logs: bool,
 ) -> Tells
-    ensures { (on_terminal : Bool) × (result
-        ≡ tells_asked_of on_terminal by_programs quiet progress has_logs) }
+    ensures { (on_terminal : Bool) × RT.may_be_terminal rt.now on_terminal
+        × (result ≡ tells_asked_of on_terminal by_programs quiet progress has_logs) }
 {
     let is_terminal = rt.is_terminal();
     let tells = by_programs && !quiet;

@@ -4,7 +4,7 @@ ghost use Rattle.bf_disk.specs.Files.{AreReadable, named_paths};
 ghost use Rattle.bf_input.specs.Inputs.{IsReadingFault};
 ghost use Rattle.bf_input.specs.Moments.{IsNoMoment};
 ghost use Rattle.bf_backfills.specs.Commands.{HasNoMoment, HasUnmeantRun, MeanSeeds, MeansRange, MeansSeed};
-ghost use Rattle.bf_backfills.specs.inner.Named.{IsFaultOfMeaning, IsReadFor, IsUnmeant, MeansNamed, path_of};
+ghost use Rattle.bf_backfills.specs.inner.Named.{IsFaultOfTextsAsked, IsReadFor, IsUnmeant, MeansNamed, path_of};
 
 use crate::range::range_of;
 use bf_command_fault::CommandFault;
@@ -102,7 +102,7 @@ pub(crate) fn meaning_of(
 ) -> Result<ToClearInRange, CommandFault>
     ensures range { IfOk result (λ meant. MeansRange range.now meant.range) }
     ensures named { IfOk result (λ meant. MeansNamed cleared.now meant.named) }
-    ensures fault { IfErr result (IsFaultOfMeaning range.now cleared.now) }
+    ensures fault { IfErr result (IsFaultOfTextsAsked range.now cleared.now) }
 {
     let range = range_of(range)?;
     let named = to_clear_asked(alloc, cleared)?;

@@ -28,7 +28,7 @@ pub enum TaskFault {
 
 impl TaskFault {
     /// Gives the number of the refusal in docs/FORMATS.md, from 6 to 17.
-    pub fn refusal_number(self) -> u32
+    fn refusal_number(self) -> u32
         ensures { result ≡ refusal_number_of self }
     {
         match self {

@@ -2,8 +2,9 @@
 //!
 //! [`check`] takes the draft of a graph file and looks at it in the order of the numbers of refusals, 6 to 17: the tasks
 //! and their upstreams, cycles, pools, slots, rules, the schedule with its zone, pulls, expansions and branches. The
-//! first look that fails is what is told. Each look hands on what it found, so that no id is looked up twice, and the
-//! plan is made of what they found. A plan that is handed out is sound: nothing above checks a graph again.
+//! first look that fails is what is told. Each look hands on what it found, and the plan is made of that. An id is
+//! looked up at each place that names it, and the id in a word once more, among the pulls of its task. A plan that is
+//! handed out is sound: nothing above checks a graph again.
 #![tactic(auto)]
 
 mod checking;

@@ -2,7 +2,7 @@
 use Rattle.std.proofs.Common.{◌≡◌, ℕ, suc, zero, ◌<◌, ◌≤◌, Bool, true, false, length, Option, None, Some, refl, sym, ap, ◌∙◌, arith}
 use Rattle.bf_core.specs.Terms.{Verdict, Dag, task_of, Given, Outcome, Entry, JobName, Ledger, result_of, name_of, outcome_at, outcome_of, last_try, TaskValue, IsOneOf, IsSettledAncestor, Direct, Above, IsSound}
 use Rattle.bf_core.specs.declared.decision.Decision.{Decision}
-use Rattle.bf_core.specs.Deciding.{Seen, settled, and_then_past, after_verdict, task_verdict_of, decision}
+use Rattle.bf_core.specs.Deciding.{Seen, settled, past_after, after_verdict, task_verdict_of, decision}
 use Rattle.bf_core.specs.Recursion.{out, before, decided, value_of, results_from, Asks}
 use Rattle.bf_core.specs.Events.{place_in}
 use Rattle.bf_core.specs.Agreement.{HoldsItsTries}
@@ -24,7 +24,7 @@ unfolding name_of
 alike_in dag one two n i name alike a d e first second given = alike (name_of dag n.run n.task i a) d e refl refl (ap (λ (m : JobName). m.index) (sym name)) first second given
 
 -- a task that doesn't depend on its past is decided without it
-past_free : (dag : Dag) (k t : ℕ) (p q : Option TaskValue) (v : Verdict) → (task_of dag t).depends_on_past ≡ false → and_then_past dag k p t v ≡ and_then_past dag k q t v
+past_free : (dag : Dag) (k t : ℕ) (p q : Option TaskValue) (v : Verdict) → (task_of dag t).depends_on_past ≡ false → past_after (task_of dag t).depends_on_past k p v ≡ past_after (task_of dag t).depends_on_past k q v
 past_free dag k t p q Verdict.Run e = rw e
 past_free dag k t p q Verdict.Wait e = refl
 past_free dag k t p q _ e = refl

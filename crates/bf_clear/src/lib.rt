@@ -25,5 +25,4 @@ pub use laws::{
     kept_reports_tell_ledgers, own_reports_match, reports_match_by_equations, reports_tell_ledgers,
     resumed_backfills_keep_the_rest,
 };
-pub use looking::task_at;
 pub use matching::is_report_of;

@@ -17,7 +17,7 @@ fn instance_of(task: &TaskReport, index: i32) -> Option<&InstanceReport>
 }
 
 /// Task number `task` in run number `run`, both from 0, as a report has it; None where it has no such run or task.
-pub fn task_at(report: &Report, run: u32, task: u32) -> Option<&TaskReport>
+pub(crate) fn task_at(report: &Report, run: u32, task: u32) -> Option<&TaskReport>
     ensures { option_copied result ≡ report_at report.now run task }
 {
     match report.runs.get(run as usize) {

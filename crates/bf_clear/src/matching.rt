@@ -72,9 +72,9 @@ fn have_pulls_of(dag: &Dag, task: &Task, instances: &[InstanceReport]) -> bool
         .all(|instance| has_pulls_of(dag, task, instance))
 }
 
-/// Whether what a report of this version has of a task fits `task`: in version 2 each of its instances has the pulls
-/// that `task` makes. Always true in version 1, which has no pulls.
-fn task_fits(version: Version, dag: &Dag, report: &TaskReport, task: &Task) -> bool
+/// Whether what a report of this version has of a task matches `task`: in version 2 each of its instances has the pulls
+/// that `task` makes, so one without instances matches. Always true in version 1, which has no pulls.
+fn task_matches(version: Version, dag: &Dag, report: &TaskReport, task: &Task) -> bool
     ensures { result ≡ is_task_in version dag.now report.now task.now }
 {
     match (version, report) {
@@ -86,8 +86,8 @@ fn task_fits(version: Version, dag: &Dag, report: &TaskReport, task: &Task) -> b
     }
 }
 
-/// Whether what a report of this version has of each task fits the one at its place in `tasks`, by `task_fits`; what is
-/// past the end of the shorter list isn't looked at.
+/// Whether what a report of this version has of each task matches the one at its place in `tasks`; what is past the end
+/// of the shorter list isn't looked at.
 fn each_is_task_of(version: Version, dag: &Dag, reports: &[TaskReport], tasks: &[Task]) -> bool
     ensures { result ≡ list_all (λ p. is_task_in version dag.now p.0 p.1)
         (zip reports.now tasks.now) }
@@ -95,12 +95,12 @@ fn each_is_task_of(version: Version, dag: &Dag, reports: &[TaskReport], tasks: &
     reports
         .iter()
         .zip(tasks)
-        .all(|(report, task)| task_fits(version, dag, report, task))
+        .all(|(report, task)| task_matches(version, dag, report, task))
 }
 
-/// Whether the tasks of a run, in a report of this version, fit the graph: they are as many as its tasks and, in
+/// Whether the tasks of a run, in a report of this version, match the graph: they are as many as its tasks and, in
 /// version 2, their instances have the pulls that these make.
-fn tasks_fit(version: Version, dag: &Dag, reports: &[TaskReport]) -> bool
+fn tasks_match(version: Version, dag: &Dag, reports: &[TaskReport]) -> bool
     ensures { result ≡ are_tasks_in version dag.now reports.now }
 {
     let tasks = dag.tasks.as_slice();
@@ -114,14 +114,14 @@ pub(crate) fn is_same_interval(one: &Interval, other: &Interval) -> bool
     one.start == other.start && one.end == other.end
 }
 
-/// Whether a run of a report of this version is over this data interval, and its tasks fit the graph, by `tasks_fit`.
-fn run_fits(version: Version, dag: &Dag, run: &RunReport, interval: &Interval) -> bool
+/// Whether a run of a report of this version is over this data interval, and its tasks match the graph.
+fn run_matches(version: Version, dag: &Dag, run: &RunReport, interval: &Interval) -> bool
     ensures { result ≡ is_run_in version dag.now run.now interval.now }
 {
-    is_same_interval(&run.interval, interval) && tasks_fit(version, dag, run.tasks.as_slice())
+    is_same_interval(&run.interval, interval) && tasks_match(version, dag, run.tasks.as_slice())
 }
 
-/// Whether each run is over the data interval at its place, with tasks that fit the graph; what is past the end of the
+/// Whether each run is over the data interval at its place, with tasks that match the graph; what is past the end of the
 /// shorter list isn't looked at.
 fn each_is_run_of(version: Version, dag: &Dag, runs: &[RunReport], intervals: &[Interval]) -> bool
     ensures { result ≡ list_all (λ p. is_run_in version dag.now p.0 p.1)
@@ -129,11 +129,11 @@ fn each_is_run_of(version: Version, dag: &Dag, runs: &[RunReport], intervals: &[
 {
     runs.iter()
         .zip(intervals)
-        .all(|(run, interval)| run_fits(version, dag, run, interval))
+        .all(|(run, interval)| run_matches(version, dag, run, interval))
 }
 
-/// Whether there are as many runs as data intervals, each over the one at its place and with tasks that fit the graph.
-fn runs_fit(version: Version, dag: &Dag, runs: &[RunReport], intervals: &[Interval]) -> bool
+/// Whether there are as many runs as data intervals, each over the one at its place and with tasks that match the graph.
+fn runs_match(version: Version, dag: &Dag, runs: &[RunReport], intervals: &[Interval]) -> bool
     ensures { result ≡ are_runs_in version dag.now runs.now intervals.now }
 {
     runs.len() == intervals.len() && each_is_run_of(version, dag, runs, intervals)
@@ -156,5 +156,5 @@ pub fn is_report_of(dag: &Dag, intervals: &[Interval], report: &Report) -> bool
     let tasks = dag.tasks.as_slice();
     is_of_dag(dag, report)
         && (intervals.is_empty() || are_ids_of(report.tasks.as_slice(), tasks))
-        && runs_fit(report.version, dag, report.runs.as_slice(), intervals)
+        && runs_match(report.version, dag, report.runs.as_slice(), intervals)
 }

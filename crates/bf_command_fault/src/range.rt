@@ -17,7 +17,7 @@ pub enum RangeFault {
 
 impl RangeFault {
     /// Answers the number that docs/FORMATS.md gives the refusal, 25 to 27 or 29; None for want of memory.
-    pub fn refusal_number(self) -> Option<u32>
+    pub(crate) fn refusal_number(self) -> Option<u32>
         ensures { result ≡ range_refusal_number_of self }
     {
         match self {

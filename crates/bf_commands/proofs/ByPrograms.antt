@@ -10,7 +10,7 @@ use Rattle.bf_command_fault.specs.declared.fault.CommandFault.{CommandFault}
 use Rattle.bf_command_fault.specs.declared.fault.CommandFault.TheVariants.{OutOfMemory, Stopped}
 use Rattle.bf_command_fault.specs.declared.stop.StopFault.{StopFault}
 use Rattle.bf_commands.specs.Programs.{IsStopOf}
-use Rattle.bf_commands.specs.inner.Programs.{IsGivenUp, IsStopOfOrWanting, IsToldOf}
+use Rattle.bf_commands.specs.inner.Programs.{IsGivenUp, IsStopOfOrWanting, IsToldOfStop}
 
 -- what is told of a fault that may be tells of a stop that may be
 module _ (may_give_up : JobName → Given → Type 0) (logs : Option (List ℕ)) (dag : Dag) (intervals : List Interval) where
@@ -20,7 +20,7 @@ module _ (may_give_up : JobName → Given → Type 0) (logs : Option (List ℕ))
   told_given_up name OutOfMemory may is = tt
   told_given_up name told may is = absurd is
 
-  pub told_stop : (fault : BackfillFault) (told : CommandFault) → MayFail may_give_up fault → IsToldOf logs dag intervals fault told → IsStopOfOrWanting may_give_up logs dag intervals told
+  pub told_stop : (fault : BackfillFault) (told : CommandFault) → MayFail may_give_up fault → IsToldOfStop logs dag intervals fault told → IsStopOfOrWanting may_give_up logs dag intervals told
   told_stop BackfillFault.OutOfMemory told may is = rw is tt
   told_stop BackfillFault.Start told may is = rw is tt
   told_stop (BackfillFault.Runner name) told may is = told_given_up name told may is

@@ -19,7 +19,7 @@ use Rattle.bf_command_fault.specs.declared.fault.CommandFault.TheVariants.{Clear
 use Rattle.bf_commands.specs.declared.cleared.ToClear.{ToClear}
 use Rattle.bf_planning.specs.declared.range.RunRange.{RunRange}
 use Rattle.bf_commands.specs.Cleared.{AreAnswersIn, AreCleared, ClearingFault, IsFaultBefore, IsKeptOf, IsPrepared, IsUncleared, IsUnknown, MatchesFor}
-use Rattle.bf_commands.specs.inner.Cleared.{IsFaultOfNamed, IsStopOrWantingFrom}
+use Rattle.bf_commands.specs.inner.Cleared.{IsFaultOfTable, IsStopOrWantingFrom}
 use Rattle.bf_planning.specs.Graphs.{IsPlanOf}
 use Rattle.bf_planning.specs.Lists.{HasListing, IsRangeFault}
 use Rattle.bf_planning.specs.Clocks.{AreClocksOf}
@@ -29,7 +29,7 @@ use Rattle.bf_commands.proofs.Faults.{range_cases, stop_cases, table_cases, work
 -- ---- the faults of parts are those of what comes before the report
 
 module _ (graph : List ℕ) (file table : Option (List ℕ)) (range : RunRange) where
-  pub table_before : (plan : Checked) → IsPlanOf graph file plan → (fault : CommandFault) → IsFaultOfNamed table fault → IsFaultBefore graph file table range fault
+  pub table_before : (plan : Checked) → IsPlanOf graph file plan → (fault : CommandFault) → IsFaultOfTable table fault → IsFaultBefore graph file table range fault
   table_before plan said fault (bytes, named, is) =
       table_cases (IsFaultBefore graph file table range) bytes (λ f says. (said.draft, said.graph_is, ap (option_map table_in) named ∙ ap Some says)) tt fault is
 

@@ -16,11 +16,10 @@ use Rattle.bf_report.specs.declared.report.Report.{Report}
 use Rattle.bf_report_reader.specs.Reading.{IsReadAs}
 use Rattle.bf_dependents.specs.declared.fault.ClearFault.{ClearFault}
 use Rattle.bf_dependents.specs.declared.place.Place.{Place}
-use Rattle.bf_dependents.specs.declared.seeds.Seed.{Seed}
 use Rattle.bf_dependents.specs.Seeds.{places_in, seed_fault}
 use Rattle.bf_seeds.specs.declared.fault.SeedsFault.{SeedsFault}
 use Rattle.bf_seeds.specs.declared.fault.SeedsFault.TheVariants.{Unknown}
-use Rattle.bf_seeds.specs.Seeds.{AreSeedsOfFile, IsFaultOfFile}
+use Rattle.bf_seeds.specs.Seeds.{ArePlacesOfFile, IsFaultOfFile}
 use Rattle.bf_clear.specs.Aligning.{AreKeptByIds}
 use Rattle.bf_clear.specs.Failing.{AreFailed}
 use Rattle.bf_clear.specs.Keeping.{AreKept}
@@ -51,8 +50,7 @@ abbrev pub AreCleared : Dag → List Interval → Report → ToClear → List Pl
 AreCleared dag intervals was (to_clear.Seeds seeds) places =
     (seed_fault dag intervals seeds.items ≡ None) × (places ≡ places_in dag intervals seeds.items)
 AreCleared dag intervals was (to_clear.File bytes) places =
-    (seeds : List Seed) × AreSeedsOfFile dag intervals bytes.items seeds
-    × (places ≡ places_in dag intervals seeds)
+    ArePlacesOfFile dag intervals bytes.items places
 AreCleared dag intervals was to_clear.Failed places = AreFailed dag intervals was places
 AreCleared dag intervals was to_clear.Nothing places = places ≡ []
 

@@ -6,7 +6,7 @@ ghost use Rattle.bf_kept.specs.Kept.{AreFit};
 ghost use Rattle.bf_process.specs.Words.{launching_of};
 ghost use Rattle.bf_clear.specs.Keeping.{kept_in};
 ghost use Rattle.bf_commands.specs.Cleared.{AreAnswersIn, ClearingFault, IsFaultBefore, IsPrepared, IsReportAfter, IsUncleared, MayAnswerBy};
-ghost use Rattle.bf_commands.specs.inner.Cleared.{IsFaultOfNamed};
+ghost use Rattle.bf_commands.specs.inner.Cleared.{IsFaultOfTable};
 ghost use Rattle.bf_journal.specs.Heads.{head_text};
 ghost use Rattle.bf_journal.specs.Left.{KeepsJournal};
 ghost use Rattle.bf_commands.specs.Journaled.{IsClearedBy, JournalReportFault, IsJournalReport};
@@ -38,7 +38,7 @@ use std::time::Clock;
 fn answers_in(alloc: Global, table: Option<&[u8]>) -> Result<Option<Table>, CommandFault>
     ensures ok { IfOk result (λ answers. AreAnswersIn (option_map (λ s. s.now) table.entry)
         answers) }
-    ensures fault { IfErr result (IsFaultOfNamed (option_map (λ s. s.now) table.entry)) }
+    ensures fault { IfErr result (IsFaultOfTable (option_map (λ s. s.now) table.entry)) }
 {
     match table {
         Some(bytes) => {

@@ -125,7 +125,8 @@ fn followers_text(
     kept: &Cleared<'_>,
 ) -> Result<String, CommandFault>
     ensures text { IfOk result (λ text. IsPlanText dated.now.plan.dag dated.now.runs
-        (places_in dated.now.plan.dag kept.now.cleared (length dated.now.runs)) (string_bytes text)) }
+        (places_in dated.now.plan.dag kept.now.cleared (length dated.now.runs))
+        (string_bytes text)) }
     ensures memory { IfErr result (λ fault. fault ≡ CommandFault.OutOfMemory) }
 {
     let runs = dated.runs.intervals().len() as u32;

@@ -1,17 +1,15 @@
 //! What is cleared.
-ghost use Rattle.std.specs.Prelude.{◌≡◌, None, IfErr, IfOk, length};
+ghost use Rattle.std.specs.Prelude.{IfErr, IfOk, length};
 ghost use Rattle.bf_kept.specs.Kept.{AreFit};
 ghost use Rattle.bf_dependents.specs.Dependents.{AreDependents};
-ghost use Rattle.bf_dependents.specs.Seeds.{places_in, seed_fault};
 ghost use Rattle.bf_clear.specs.Keeping.{kept_in};
 ghost use Rattle.bf_clear.specs.Matching.{IsRefusedFor};
 ghost use Rattle.bf_commands.specs.Cleared.{AreCleared, AreKeptFor, IsKeptOf, IsUncleared, IsUnknown, MatchesFor};
 ghost use Rattle.bf_commands.specs.Planned.{AreFollowing};
-ghost use Rattle.bf_commands.specs.inner.Cleared.{IsUnknownNamed};
 
 use bf_clear::{Cleared, clear_places, clear_places_by_ids, failed_places};
 use bf_command_fault::CommandFault;
-use bf_dependents::{ClearFault, Place, Seed, places_of, refuse_seeds};
+use bf_dependents::{ClearFault, Place, Seed, places_of};
 use bf_planning::DatedPlan;
 use bf_report::Report;
 use bf_seeds::read_seeds;
@@ -30,24 +28,6 @@ pub enum ToClear {
     Nothing,
 }
 
-/// Finds the places that seeds name in a plan and its runs. `Err` where a seed's task or run is unknown, or at want of
-/// memory.
-fn places_of_seeds(
-    alloc: Global,
-    dated: &DatedPlan,
-    seeds: &[Seed],
-) -> Result<Vec<Place>, CommandFault>
-    ensures known { IfOk result (λ _. seed_fault dated.now.plan.dag dated.now.runs seeds.now
-        ≡ None) }
-    ensures ok { IfOk result (λ places. places.items
-        ≡ places_in dated.now.plan.dag dated.now.runs seeds.now) }
-    ensures fault { IfErr result (IsUnknownNamed dated.now.plan.dag dated.now.runs seeds.now) }
-{
-    let intervals = dated.runs.intervals();
-    refuse_seeds(&dated.plan, intervals, seeds)?;
-    Ok(places_of(alloc, &dated.plan, intervals, seeds)?)
-}
-
 /// Finds what is to be cleared in a report, without what follows from it. `Err` where a seed's task or run is unknown,
 /// the seeds file is refused, or memory runs out.
 pub(crate) fn places_to_clear(
@@ -60,13 +40,10 @@ pub(crate) fn places_to_clear(
         what.now places.items) }
     ensures fault { IfErr result (IsUnknown dated.now.plan.dag dated.now.runs what.now) }
 {
+    let intervals = dated.runs.intervals();
     match what {
-        ToClear::Seeds(seeds) => places_of_seeds(alloc, dated, seeds.as_slice()),
-        ToClear::File(bytes) => {
-            let intervals = dated.runs.intervals();
-            let seeds = read_seeds(alloc, &dated.plan, intervals, bytes.as_slice())?;
-            Ok(places_of(alloc, &dated.plan, intervals, seeds.as_slice())?)
-        }
+        ToClear::Seeds(seeds) => Ok(places_of(alloc, &dated.plan, intervals, seeds.as_slice())?),
+        ToClear::File(bytes) => Ok(read_seeds(alloc, &dated.plan, intervals, bytes.as_slice())?),
         ToClear::Failed => Ok(failed_places(alloc, &dated.plan, &dated.runs, report)?),
         ToClear::Nothing => Ok(Vec::new(alloc)),
     }

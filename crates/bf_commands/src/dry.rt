@@ -60,7 +60,8 @@ pub fn run_dry<RT: Starter + Screen + Threads + Wait + Clock + Sync, W: Write>(
     out: &mut W,
 ) -> Result<bool, CommandFault>
     ensures ok { IfOk result (λ success. Sends (λ text.
-        IsDryReport graph.now (option_map (λ s. s.now) zone_file.entry) table.now range text success)
+        IsDryReport graph.now (option_map (λ s. s.now) zone_file.entry) table.now range text
+        success)
         (W.written out.old) (W.written out.new)) }
     ensures fault { IfErr result (DryFault (is_single_threaded_in crew.now.progress) graph.now
         (option_map (λ s. s.now) zone_file.entry) table.now range) }

@@ -6,7 +6,7 @@ ghost use Rattle.bf_commands.specs.inner.Journaled.{AddsTold};
 
 use bf_dependents::Place;
 use bf_interval::{Interval, Runs};
-use bf_journal::{ClearedTask, id_of};
+use bf_journal::ClearedTask;
 use bf_moment::Moment;
 use bf_plan::{Dag, Plan};
 use bf_value::{OutOfMemory, Text};
@@ -23,7 +23,7 @@ fn cleared_task_of(
     requires { IsShownInterval interval.now }
     ensures { IfOk result (IsToldOf dag.now interval.now place) }
 {
-    let task = Text::copy_of(alloc, id_of(dag, place.task))?;
+    let task = Text::copy_of(alloc, dag.id_of(place.task))?;
     Ok(ClearedTask {
         task,
         run: Moment::new(interval.start),

@@ -51,7 +51,8 @@ pub fn dry_reports_are_unique()
 pub fn single_reports_are_unique()
     ensures { (graph : List ℕ) (file : Option (List ℕ)) (table : List ℕ) (at : Timestamp)
         (one two : List ℕ) (success other : Bool)
-        → IsSingleReport graph file table at one success → IsSingleReport graph file table at two other
+        → IsSingleReport graph file table at one success
+        → IsSingleReport graph file table at two other
         → (one ≡ two) × (success ≡ other) }
 {}
 

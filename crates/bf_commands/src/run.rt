@@ -78,7 +78,8 @@ where
         dated.now.runs) }
     ensures left { IfErr result.report (Leaves (HasHalted (W.failures out.old) (W.failures out.new)
         (W.interruptions out.old) (W.interruptions out.new))
-        (λ text. (success : Bool) × IsJournalReport nothing journal.retry_failed journal.held.items []
+        (λ text. (success : Bool)
+        × IsJournalReport nothing journal.retry_failed journal.held.items []
         (MayAnswer (launched_in dated.now (launching_of crew.now.launching)
         (RT.may_hear crew.now.rt.now)) dated.now.plan.dag dated.now.runs)
         dated.now.plan.dag dated.now.runs text success) (W.written out.old) (W.written out.new)) }

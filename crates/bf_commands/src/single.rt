@@ -36,7 +36,8 @@ fn write_single<RT: Starter + Screen + Threads + Wait + Clock + Sync, W: Write>(
 ) -> Result<bool, CommandFault>
     requires { IsInYears at.nanosecond → IsWhole at.nanosecond }
     ensures ok { (graph : List ℕ) (file : Option (List ℕ)) → IsPlanOf graph file plan.now
-        → IfOk result (λ success. Sends (λ text. IsSingleReport graph file table.now at text success)
+        → IfOk result (λ success. Sends
+        (λ text. IsSingleReport graph file table.now at text success)
         (W.written out.old) (W.written out.new)) }
     ensures fault { (graph : List ℕ) (file : Option (List ℕ)) → IsPlanOf graph file plan.now
         → IfErr result (SingleFault graph file table.now at) }
@@ -65,14 +66,15 @@ pub fn run_single<RT: Starter + Screen + Threads + Wait + Clock + Sync, W: Write
 ) -> Result<bool, CommandFault>
     requires { IsInYears at.nanosecond → IsWhole at.nanosecond }
     ensures ok { IfOk result (λ success. Sends
-        (λ text. IsSingleReport graph.now (option_map (λ s. s.now) zone_file.entry) table.now at text
-        success)
+        (λ text. IsSingleReport graph.now (option_map (λ s. s.now) zone_file.entry) table.now at
+        text success)
         (W.written out.old) (W.written out.new)) }
     ensures fault { IfErr result (SingleFault graph.now
         (option_map (λ s. s.now) zone_file.entry) table.now at) }
     ensures left { IfErr result (Leaves (HasHalted (W.failures out.old) (W.failures out.new)
         (W.interruptions out.old) (W.interruptions out.new))
-        (λ text. (success : Bool) × IsSingleReport graph.now (option_map (λ s. s.now) zone_file.entry)
+        (λ text. (success : Bool)
+        × IsSingleReport graph.now (option_map (λ s. s.now) zone_file.entry)
         table.now at text success)
         (W.written out.old) (W.written out.new)) }
 {

@@ -4,13 +4,13 @@ ghost use Rattle.bf_core.specs.Answered.{MayFault};
 ghost use Rattle.bf_exec.specs.Faults.{MayFail};
 ghost use Rattle.bf_commands.specs.inner.Journaled.{IsToldAt, IsToldOfRecorded, told_of_stop};
 ghost use Rattle.bf_commands.specs.inner.OverTable.{IsUnsent, IsWantingWorkers};
-ghost use Rattle.bf_commands.specs.inner.Programs.{IsGivenUp, IsLost, IsToldOf, IsUnlogged};
+ghost use Rattle.bf_commands.specs.inner.Programs.{IsGivenUp, IsToldOfStop, IsUnanswered, IsUnlogged};
 
 use bf_command_fault::{CommandFault, StopFault};
 use bf_core::BackfillFault;
 use bf_failure::{context_of, log_path};
 use bf_interval::Runs;
-use bf_journal::{Stop, id_of};
+use bf_journal::Stop;
 use bf_plan::Plan;
 use bf_value::{JobName, Text};
 use std::alloc::Global;
@@ -77,12 +77,12 @@ impl<'a> StoppedBackfill<'a> {
     /// Gives the fault that a try's program can't be waited for, with its task's id, map index and number; or want of
     /// memory.
     fn lost_fault(&self, name: JobName) -> CommandFault
-        ensures lost { IsLost self.now.plan.now.dag name result }
+        ensures lost { IsUnanswered self.now.plan.now.dag name result }
         ensures told { IsGivenUp (option_map (λ l. l.now) self.now.logs) self.now.plan.now.dag
             self.now.runs.now name result }
         ensures unsent { IsUnsent result }
     {
-        match String::from_str(self.alloc, id_of(self.plan.dag(), name.task)) {
+        match String::from_str(self.alloc, self.plan.dag().id_of(name.task)) {
             Ok(task) => CommandFault::Stopped(StopFault::GaveUp {
                 task: Text::new(task),
                 index: name.index,
@@ -95,7 +95,8 @@ impl<'a> StoppedBackfill<'a> {
     /// Gives the fault of a try that its runner gave up: that its log can't be made, where some log couldn't be and
     /// these are kept, else that its program can't be waited for; or want of memory.
     fn given_up_fault(&self, name: JobName) -> CommandFault
-        ensures lost { self.now.cannot_log ≡ false → IsLost self.now.plan.now.dag name result }
+        ensures lost { self.now.cannot_log ≡ false
+            → IsUnanswered self.now.plan.now.dag name result }
         ensures told { IsGivenUp (option_map (λ l. l.now) self.now.logs) self.now.plan.now.dag
             self.now.runs.now name result }
         ensures unsent { IsUnsent result }
@@ -110,14 +111,14 @@ impl<'a> StoppedBackfill<'a> {
     }
 }
 
-/// Gives the command's fault where a backfill by programs stopped: a thread can't be started, a log can't be made, a
-/// program can't be waited for, or memory ran out.
+/// Gives the command's fault where a backfill by programs stopped: want of memory, a thread that can't be started, or,
+/// where a try was given up, what `given_up_fault` gives.
 pub(crate) fn stop_fault_by_programs(
     stopping: &StoppedBackfill<'_>,
     fault: &BackfillFault,
 ) -> CommandFault
-    ensures told { IsToldOf (option_map (λ l. l.now) stopping.now.logs) stopping.now.plan.now.dag
-        stopping.now.runs.now fault.now result }
+    ensures told { IsToldOfStop (option_map (λ l. l.now) stopping.now.logs)
+        stopping.now.plan.now.dag stopping.now.runs.now fault.now result }
     ensures unsent { IsUnsent result }
 {
     match fault {

@@ -1,4 +1,5 @@
 pub mod Least
+pub mod SeedFaults
 pub mod RightMarks
 pub mod Lookups
 pub mod Neighbours

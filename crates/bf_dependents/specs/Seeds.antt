@@ -1,5 +1,5 @@
 -- What is cleared, by ids and logical dates.
-use Rattle.std.specs.Prelude.{ℕ, List, Bool, Option, Some, None, option_and_then, option_map, is_none, if◌then◌else◌}
+use Rattle.std.specs.Prelude.{◌≡◌, ℕ, List, Bool, Option, Some, None, option_and_then, option_map, is_none, if◌then◌else◌}
 use Rattle.std.specs.List.{list_any, filter_map, position}
 use Rattle.std.specs.Ordering.{int_eq}
 use Rattle.std.specs.Str.{bytes_eq}
@@ -9,6 +9,7 @@ use Rattle.bf_plan.specs.declared.plan.Dag.{Dag}
 use Rattle.bf_dependents.specs.declared.place.Place.{Place}
 use Rattle.bf_dependents.specs.declared.seeds.Seed.{Seed}
 use Rattle.bf_dependents.specs.declared.fault.ClearFault.{ClearFault}
+use Rattle.bf_dependents.specs.declared.fault.ClearFault.TheVariants.{OutOfMemory}
 
 -- the task that a seed names
 abbrev pub task_number : Dag → Seed → Option ℕ
@@ -42,3 +43,8 @@ seed_fault dag intervals seeds =
     if list_any (is_unknown_task_in dag) seeds then Some ClearFault.UnknownTask
     else (if list_any (is_unknown_run_in intervals) seeds then Some ClearFault.UnknownRun
     else None)
+
+-- why the seeds have no places: their first fault, or want of memory
+abbrev pub IsSeedFault : Dag → List Interval → List Seed → ClearFault → Type 0
+IsSeedFault dag intervals seeds OutOfMemory = Unit {0}
+IsSeedFault dag intervals seeds fault = seed_fault dag intervals seeds ≡ Some fault

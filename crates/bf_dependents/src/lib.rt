@@ -23,4 +23,4 @@ pub use laws::{
     seeds_without_indexes_take_tasks,
 };
 pub use place::Place;
-pub use seeds::{Seed, places_of, refuse_seeds};
+pub use seeds::{Seed, place_of, places_of};

@@ -1,7 +1,6 @@
 //! Seeds: what is to be cleared.
-ghost use Rattle.std.specs.Prelude.{◌≡◌, ◌≤◌, length, IfOk, IfErr, Some, None};
-ghost use Rattle.std.specs.List.{list_any};
-ghost use Rattle.bf_dependents.specs.Seeds.{is_unknown_run_in, is_unknown_task_in, place_in, places_in, run_number, seed_fault, task_number};
+ghost use Rattle.std.specs.Prelude.{◌≡◌, ◌≤◌, ◌∷◌, ◌++◌, [], length, IfOk, IfErr, OnErr, OnOk, Some, None};
+ghost use Rattle.bf_dependents.specs.Seeds.{IsSeedFault, place_in, places_in, run_number, seed_fault, task_number};
 
 use crate::fault::ClearFault;
 use crate::place::Place;
@@ -38,82 +37,62 @@ fn run_number_of(intervals: &[Interval], seed: &Seed) -> Option<usize>
     intervals.iter().position(|interval| interval.start == run)
 }
 
-/// Whether a seed names a task that the plan lacks.
-fn is_unknown_task(plan: &Plan, seed: &Seed) -> bool
-    ensures { result ≡ is_unknown_task_in plan.now.dag seed.now }
-{
-    task_number_of(plan, seed).is_none()
-}
-
-/// Whether a seed names a run that is the start of none of these data intervals.
-fn is_unknown_run(intervals: &[Interval], seed: &Seed) -> bool
-    ensures { result ≡ is_unknown_run_in intervals.now seed.now }
-{
-    run_number_of(intervals, seed).is_none()
-}
-
-/// Whether any of these seeds names a task that the plan lacks.
-fn has_unknown_task(plan: &Plan, seeds: &[Seed]) -> bool
-    ensures { result ≡ list_any (is_unknown_task_in plan.now.dag) seeds.now }
-{
-    seeds.iter().any(|seed| is_unknown_task(plan, seed))
-}
-
-/// Whether any of these seeds names a run that is the start of none of these data intervals.
-fn has_unknown_run(intervals: &[Interval], seeds: &[Seed]) -> bool
-    ensures { result ≡ list_any (is_unknown_run_in intervals.now) seeds.now }
-{
-    seeds.iter().any(|seed| is_unknown_run(intervals, seed))
-}
-
-/// Refuses seeds: with `UnknownTask` where any names a task that the plan lacks, else with `UnknownRun` where any names
-/// a run that is the start of none of these data intervals. It never gives another fault.
-pub fn refuse_seeds(plan: &Plan, intervals: &[Interval], seeds: &[Seed]) -> Result<(), ClearFault>
-    ensures ok { IfOk result (λ _. seed_fault plan.now.dag intervals.now seeds.now ≡ None) }
-    ensures err { IfErr result (λ fault. seed_fault plan.now.dag intervals.now seeds.now
+/// The place that a seed names. `UnknownTask` where the plan lacks its task, else `UnknownRun` where its run is the
+/// start of none of these data intervals; it never gives another fault.
+pub fn place_of(plan: &Plan, intervals: &[Interval], seed: &Seed) -> Result<Place, ClearFault>
+    requires few { length intervals.now ≤ 4_096 }
+    ensures known { IfOk result (λ _. seed_fault plan.now.dag intervals.now (seed.now ∷ [])
+        ≡ None) }
+    ensures ok { IfOk result (λ place. place_in plan.now.dag intervals.now seed.now
+        ≡ Some place) }
+    ensures err { IfErr result (λ fault. seed_fault plan.now.dag intervals.now (seed.now ∷ [])
         ≡ Some fault) }
 {
-    if has_unknown_task(plan, seeds) {
-        return Err(ClearFault::UnknownTask);
-    }
-    if has_unknown_run(intervals, seeds) {
-        return Err(ClearFault::UnknownRun);
-    }
-    Ok(())
-}
-
-/// The place that a seed names; None where the plan lacks its task, or its run is the start of none of these data
-/// intervals.
-fn place_of(plan: &Plan, intervals: &[Interval], seed: &Seed) -> Option<Place>
-    requires few { length intervals.now ≤ 4_096 }
-    ensures { result ≡ place_in plan.now.dag intervals.now seed.now }
-{
-    let task = task_number_of(plan, seed)?;
-    let run = run_number_of(intervals, seed)? as u32;
-    Some(Place {
+    let task = task_number_of(plan, seed).ok_or(ClearFault::UnknownTask)?;
+    let run = run_number_of(intervals, seed).ok_or(ClearFault::UnknownRun)? as u32;
+    Ok(Place {
         run,
         task,
         index: seed.index,
     })
 }
 
-/// The places that these seeds name, in order. A seed has none where the plan lacks its task, or its run is the start
-/// of none of these data intervals.
+/// Adds a place at the end of `places`; `Err` changes nothing.
+fn add_place(places: &mut Vec<Place>, place: Place) -> Result<(), OutOfMemory>
+    ensures ok { OnOk result (places.new.items ≡ places.old.items ++ place ∷ []) }
+    ensures err { OnErr result (places.new.items ≡ places.old.items) }
+{
+    places.push(place)?;
+    Ok(())
+}
+
+/// The places that these seeds name, in order. `UnknownTask` where any names a task that the plan lacks, else
+/// `UnknownRun` where any names a run that is the start of none of these data intervals; `OutOfMemory` where memory ran
+/// out.
 pub fn places_of(
     alloc: Global,
     plan: &Plan,
     intervals: &[Interval],
     seeds: &[Seed],
-) -> Result<Vec<Place>, OutOfMemory>
+) -> Result<Vec<Place>, ClearFault>
     requires few { length intervals.now ≤ 4_096 }
-    ensures { IfOk result (λ places. places.items
+    ensures known { IfOk result (λ _. seed_fault plan.now.dag intervals.now seeds.now ≡ None) }
+    ensures ok { IfOk result (λ places. places.items
         ≡ places_in plan.now.dag intervals.now seeds.now) }
+    ensures err { IfErr result (IsSeedFault plan.now.dag intervals.now seeds.now) }
 {
     let mut places = Vec::new(alloc);
+    let mut is_run_unknown = false;
     for seed in seeds {
-        if let Some(place) = place_of(plan, intervals, seed) {
-            places.push(place)?;
+        match place_of(plan, intervals, seed) {
+            Ok(place) => add_place(&mut places, place)?,
+            // a later seed may name an unknown task, which goes before
+            Err(ClearFault::UnknownRun) => is_run_unknown = true,
+            Err(fault) => return Err(fault),
         }
+    }
+    if is_run_unknown {
+        return Err(ClearFault::UnknownRun);
     }
     Ok(places)
 }

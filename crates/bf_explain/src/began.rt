@@ -11,7 +11,6 @@ use bf_plan::Plan;
 use bf_report::{InstanceReport, Report, RunReport, TaskReport};
 use bf_roots::{Began, Root};
 use bf_value::{OutOfMemory, Text};
-use bf_why::id_at;
 use bf_wording::{name_list, one_line, value_text};
 use std::alloc::Global;
 
@@ -109,7 +108,7 @@ fn root_text(
 ) -> Result<Text, OutOfMemory>
     ensures { IfOk result (λ text. text ≡ root_text_of plan.now.dag report.now run root.now) }
 {
-    let id = id_at(plan.dag(), root.task);
+    let id = plan.dag().id_of(root.task);
     let told = tasks_at(report, root.run).get(root.task as usize);
     let began = began_text(alloc, root.began, told)?;
     let there = other_run_text(alloc, report, run, root.run)?;

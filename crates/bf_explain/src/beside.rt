@@ -11,7 +11,7 @@ use bf_reason::Settled;
 use bf_report::TaskReport;
 use bf_rule::Counts;
 use bf_value::{OutOfMemory, Text};
-use bf_why::{counts_text, id_at};
+use bf_why::counts_text;
 use bf_wording::count_text;
 use bf_xcom::{Outcome, TaskResult};
 use std::alloc::Global;
@@ -97,7 +97,7 @@ pub(crate) fn padded(alloc: Global, id: &str, width: usize) -> Result<Text, OutO
 fn id_in(plan: &Plan, task: u32) -> &str
     ensures { result.now ≡ id_of plan.now.dag task }
 {
-    id_at(plan.dag(), task)
+    plan.dag().id_of(task)
 }
 
 /// The length in bytes of the longest id of these tasks; 0 where there are no tasks.

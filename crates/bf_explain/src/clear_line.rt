@@ -9,7 +9,6 @@ use bf_plan::Plan;
 use bf_quoted::{push_line, push_quoted};
 use bf_report::{Report, RunReport};
 use bf_value::{OutOfMemory, Text};
-use bf_why::id_at;
 use bf_wording::{add_line, add_line_if};
 use std::alloc::Global;
 
@@ -108,7 +107,7 @@ fn add_seed(
     ensures { OnOk result (words.new.items ≡ words.old.items
         ++ seed_words plan.now.dag report.now place) }
 {
-    add_option(alloc, words, "--task", id_at(plan.dag(), place.task))?;
+    add_option(alloc, words, "--task", plan.dag().id_of(place.task))?;
     add_line(alloc, words, "--run")?;
     words.push(short_start_at(alloc, report, place.run as usize)?)?;
     Ok(())

@@ -12,7 +12,6 @@ use bf_plan::Plan;
 use bf_report::{Report, RunReport};
 use bf_roots::Root;
 use bf_value::{OutOfMemory, Text};
-use bf_why::id_at;
 use bf_wording::{add_lines, count_text, one_line};
 use std::alloc::Global;
 
@@ -21,9 +20,9 @@ const MOST_PLACES: usize = 3;
 
 /// How much is cleared: `tasks`, where a task in two runs counts twice, in `runs` runs in a row.
 #[derive(Clone, Copy, Debug, PartialEq, Eq)]
-pub struct ClearedCount {
-    pub tasks: u64,
-    pub runs: u64,
+struct ClearedCount {
+    tasks: u64,
+    runs: u64,
 }
 
 /// The place of task number `task` in run number `run`, with all its instances.
@@ -79,7 +78,7 @@ fn place_text(
     if place.run == run && place.task == task {
         return Text::copy_of(alloc, "");
     }
-    let id = id_at(plan.dag(), place.task);
+    let id = plan.dag().id_of(place.task);
     let there = other_run_text(alloc, report, run, place.run)?;
     Ok(Text::new(format!(in alloc; " {id}{there}")?))
 }

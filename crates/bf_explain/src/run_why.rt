@@ -10,7 +10,7 @@ ghost use Rattle.bf_why.specs.Since.{failures, has_instance_of};
 use bf_plan::{Dag, Plan, Task};
 use bf_reason::{Settled, is_blocked};
 use bf_value::{OutOfMemory, Text};
-use bf_why::{States, has_instance_in, id_at, no_status_text};
+use bf_why::{States, has_instance_in, no_status_text};
 use bf_wording::{add_line_if, add_lines, name_list, one_line};
 use std::alloc::Global;
 
@@ -50,7 +50,7 @@ fn add_id_if(
     ensures { OnOk result (ids.new.items ≡ ids.old.items
         ++ (if holds then id_of plan.now.dag task ∷ [] else [])) }
 {
-    add_line_if(alloc, ids, holds, id_at(plan.dag(), task))
+    add_line_if(alloc, ids, holds, plan.dag().id_of(task))
 }
 
 /// The ids of the tasks in `order` that no task follows and that have an instance failed or upstream_failed, in that
@@ -62,7 +62,8 @@ fn last_failed_ids(
     order: &[u32],
 ) -> Result<Vec<Text>, OutOfMemory>
     ensures { IfOk result (λ ids. ids.items ≡ ids_of plan.now.dag
-        (λ task. is_last_in plan.now.dag task && has_instance_of settled.now failures task) order.now) }
+        (λ task. is_last_in plan.now.dag task && has_instance_of settled.now failures task)
+        order.now) }
 {
     let mut ids = Vec::new(alloc);
     for task in order {

@@ -21,7 +21,6 @@ use bf_reason::{Settled, settled_tasks};
 use bf_report::{Report, RunReport};
 use bf_roots::Root;
 use bf_value::{OutOfMemory, Text};
-use bf_why::id_at;
 use bf_wording::{add_lines, one_line};
 use std::alloc::Global;
 
@@ -48,7 +47,7 @@ fn heading_and_why_lines(
         place ∷ []
         ++ why_section plan.now.dag report.now run told_run.now task told.now place roots.now) }
 {
-    let id = id_at(plan.dag(), task);
+    let id = plan.dag().id_of(task);
     let mut lines = one_line(
         alloc,
         first_heading(alloc, id, told_run.interval.start, told, place)?,

@@ -16,7 +16,7 @@ pub enum Detail {
 
 impl Detail {
     /// Copies the detail.
-    pub fn copy(&self, alloc: Global) -> Result<Detail, OutOfMemory>
+    pub(crate) fn copy(&self, alloc: Global) -> Result<Detail, OutOfMemory>
         ensures { IfOk result (λ detail. detail ≡ self.now) }
     {
         Ok(match self {

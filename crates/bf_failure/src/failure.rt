@@ -34,7 +34,7 @@ pub enum Failure {
 impl Failure {
     /// Adds the number of the signal that ended the program, or the system's words for why it wasn't started, where the
     /// failure lacks it and `detail` has it; else gives the failure unchanged.
-    pub fn with_detail(self, detail: Option<Detail>) -> Failure
+    pub(crate) fn with_detail(self, detail: Option<Detail>) -> Failure
         ensures { result ≡ detailed self detail }
     {
         match (self, detail) {

@@ -33,7 +33,8 @@ fn told_value_at(
     place: &DocumentPlace,
     value: Option<&Value>,
 ) -> Result<Text, OutOfMemory>
-    ensures { IfOk result (λ t. t ≡ told_value_in place.now (option_map (λ v. view v.now) value.entry)) }
+    ensures { IfOk result (λ t.
+        t ≡ told_value_in place.now (option_map (λ v. view v.now) value.entry)) }
 {
     match value {
         Some(value) => shown_at(alloc, place, value),

@@ -4,7 +4,7 @@ ghost use Rattle.serde_json.specs.View.{view};
 ghost use Rattle.bf_read.specs.Reading.{data_in};
 ghost use Rattle.bf_findings.specs.declared.finding.Finding.TheVariants.{Fault as FaultFound};
 ghost use Rattle.bf_findings.specs.Findings.{AreFindings, IsFinding, TellsAll};
-ghost use Rattle.bf_findings.specs.inner.Findings.{IsRefusedFor};
+ghost use Rattle.bf_findings.specs.inner.Findings.{IsRefusalIfAny};
 
 use crate::finding::{Fault, Finding};
 use crate::judging::Document;
@@ -21,7 +21,7 @@ fn refusal(
     graph: &[u8],
     zone_file: Option<&[u8]>,
 ) -> Result<Option<Refusal>, OutOfMemory>
-    ensures { IfOk result (IsRefusedFor graph.now (option_map (λ s. s.now) zone_file.entry)) }
+    ensures { IfOk result (IsRefusalIfAny graph.now (option_map (λ s. s.now) zone_file.entry)) }
 {
     let draft = match read_graph(alloc, graph) {
         Ok(draft) => draft,
@@ -97,7 +97,7 @@ fn findings_of_refused(
     zone_file: Option<&[u8]>,
     refusal: Refusal,
 ) -> Result<Vec<Finding>, OutOfMemory>
-    requires { IsRefusedFor graph.now (option_map (λ s. s.now) zone_file) (Some refusal) }
+    requires { IsRefusalIfAny graph.now (option_map (λ s. s.now) zone_file) (Some refusal) }
     ensures each { IfOk result (λ v. All
         (IsFinding graph.now (option_map (λ s. s.now) zone_file.entry)) v.items) }
     ensures some { IfOk result (λ v. 0 < length v.items) }

@@ -16,7 +16,7 @@ impl WordKey {
     ghost use Rattle.bf_findings.specs.Places.{word_key_name};
 
     /// Gives the key as it stands in a file.
-    pub fn name(self) -> &'static str
+    pub(crate) fn name(self) -> &'static str
         ensures { result.now ≡ word_key_name self }
     {
         match self {

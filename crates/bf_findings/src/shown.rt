@@ -14,7 +14,7 @@ use std::alloc::Global;
 const MOST_SHOWN: usize = 260;
 
 /// Gives a text as JSON, with its quotes.
-pub(crate) fn json_text_of(alloc: Global, text: &str) -> Result<Text, OutOfMemory>
+fn json_text_of(alloc: Global, text: &str) -> Result<Text, OutOfMemory>
     ensures { IfOk result (λ t. t ≡ compact_text (string text.now)) }
 {
     let value = Value::String(String::from_str(alloc, text)?);

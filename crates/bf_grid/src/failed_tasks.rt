@@ -5,7 +5,6 @@ ghost use Rattle.bf_grid.specs.FailedTasks.{failed_starts_of, failing_of, failin
 ghost use Rattle.bf_wording.specs.Numbers.{count_text_of};
 ghost use Rattle.bf_grid.specs.inner.FoundTasks.{first_fewer, pair_of};
 
-use crate::selection::id_of;
 use bf_marks::{
     push, push_counted_noun, push_left_aligned, push_listed_moments, push_number,
     push_right_aligned, tally_at,
@@ -96,7 +95,7 @@ fn id_width(dag: &Dag, found: &[Failing]) -> usize
 {
     let mut longest = 0;
     for failing in found {
-        longest = longest.max(id_of(dag, failing.task).len());
+        longest = longest.max(dag.id_of(failing.task).len());
     }
     longest
 }
@@ -127,7 +126,7 @@ impl Failing {
         let mut count = Vec::new(alloc);
         push_counted_noun(alloc, &mut count, self.starts.len() as u64, "run")?;
         push(text, b"  ")?;
-        push_left_aligned(text, longest, id_of(dag, self.task).as_bytes())?;
+        push_left_aligned(text, longest, dag.id_of(self.task).as_bytes())?;
         push(text, b"  ")?;
         push_right_aligned(text, widest, count.as_slice())?;
         push(text, b"  ")?;

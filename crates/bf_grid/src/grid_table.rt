@@ -7,7 +7,6 @@ ghost use Rattle.bf_grid.specs.inner.GridTables.{row_in, text_in};
 
 use crate::legend::push_legend;
 use crate::row::{Columns, Layout, push_line};
-use crate::selection::id_of;
 use bf_marks::{
     Scale, push, push_digits, push_groups, push_spaces, tally_in, tally_of_shown_states,
 };
@@ -98,7 +97,7 @@ impl Table<'_> {
     {
         let marks = self.columns.marks(alloc, task)?;
         let tally = tally_in(self.columns.runs, task)?;
-        let name = id_of(self.dag, task).as_bytes();
+        let name = self.dag.id_of(task).as_bytes();
         self.layout
             .push_row(alloc, text, name, marks.as_slice(), tally)
     }

@@ -60,7 +60,7 @@ pub(crate) struct Columns<'a> {
 
 impl<'a> Columns<'a> {
     /// The runs of the column at `place`, from 0.
-    pub(crate) fn at(self, place: usize) -> &'a [&'a RunReport]
+    fn at(self, place: usize) -> &'a [&'a RunReport]
         requires { place < self.count }
         ensures { map (λ run. run.now) result.now
             ≡ column_of self.entry.each (map (λ run. run.now) self.entry.runs.now) place }

@@ -1,6 +1,5 @@
 //! Which runs and tasks a grid shows.
 ghost use Rattle.std.specs.Prelude.{◌≡◌, ◌≤◌, ◌<◌, ◌+◌, ◌^◌, map, IfOk};
-ghost use Rattle.bf_plan.specs.Plans.{task_of};
 ghost use Rattle.bf_grid.specs.Selection.{is_shown_run_in, is_shown_task_in, longest_id_length_of, names_of, name_width_of, shown_runs_of, shown_tasks_of};
 ghost use Rattle.bf_grid.specs.Grid.{total_of};
 
@@ -84,16 +83,6 @@ pub(crate) fn total_in(runs: &[&RunReport], tasks: &[u32]) -> Result<Tally, OutO
     Ok(total)
 }
 
-/// The id of task number `task`; empty where the graph has no such task.
-pub(crate) fn id_of(dag: &Dag, task: u32) -> &str
-    ensures { result.now ≡ (task_of dag.now task).id }
-{
-    match dag.tasks.get(task as usize) {
-        Some(task) => task.id.as_str(),
-        None => "",
-    }
-}
-
 /// The length in bytes of the longest id of these tasks, but at least 3, that of the label `run`.
 fn longest_id_length(dag: &Dag, tasks: &[u32]) -> usize
     ensures longest { result ≡ longest_id_length_of (names_of dag.now tasks.now) }
@@ -101,7 +90,7 @@ fn longest_id_length(dag: &Dag, tasks: &[u32]) -> usize
 {
     let mut longest = 3;
     for task in tasks {
-        longest = longest.max(id_of(dag, *task).len());
+        longest = longest.max(dag.id_of(*task).len());
     }
     longest
 }

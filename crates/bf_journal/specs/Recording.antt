@@ -1,5 +1,5 @@
 -- What a recorder has written.
-use Rattle.std.specs.Prelude.{◌≡◌, ℕ, ◌≤◌, nat_le, Bool, false, true, if◌then◌else◌, List, length, take, Option, Some, None, All}
+use Rattle.std.specs.Prelude.{◌≡◌, ℕ, ◌≤◌, Bool, false, true, List, length, take, Option, Some, None, All}
 use Rattle.std.specs.List.{flat_map}
 use Rattle.bf_device.specs.Device.{sent}
 use Rattle.bf_value.specs.declared.name.JobName.{JobName}
@@ -33,17 +33,6 @@ pub record Recorded : Type 0 where
   pub memory_failed : Bool
   pub failed_tries : ℕ
   pub most_failed : Option ℕ
-
-abbrev pub is_enough : Option ℕ → ℕ → Bool
-is_enough None failed_tries = false
-is_enough (Some most) failed_tries = nat_le most failed_tries
-
--- why no further try is begun, if none is
-abbrev pub stop_reason_of : Recorded → Option Stop
-stop_reason_of r =
-    if r.write_failed then Some WriteFailed
-    else (if r.memory_failed then Some OutOfMemory
-    else (if is_enough r.most_failed r.failed_tries then Some EnoughFailed else None))
 
 -- no try is begun since a write failed
 abbrev pub is_write_failed : Option Stop → Bool

@@ -2,3 +2,4 @@ pub mod Lines
 pub mod Tells
 pub mod Found
 pub mod Bare
+pub mod Recording

@@ -1,19 +1,27 @@
 //! Devices whose bytes outlast a power cut.
-ghost use Rattle.std.specs.Prelude.{◌≡◌};
+ghost use Rattle.std.specs.Prelude.{◌≡◌, true, ℕ, List, Option, OnOk};
 
 use bf_device::{Halt, MOST_INTERRUPTIONS, Memory, Output, Write};
 use std::fs::OpenFile;
 use std::io;
 
-/// A device that can make what was written to it outlast a power cut. Contracts claim nothing of that.
+/// A device that can make what was written to it outlast a power cut.
 pub trait Durable: Write {
-    /// Returns once all that was written so far outlasts a power cut; Err where that fails or is interrupted. What was
-    /// written stays the same either way.
+    /// The bytes that outlast a power cut, where the device tells them.
+    ghost outlasting: { Self → Option (List ℕ) };
+
+    /// Returns once all that was written so far outlasts a power cut. `Again` where that was interrupted, `Failed`
+    /// where it failed. What was written stays the same either way.
     fn sync(&mut self) -> Result<(), Halt>
-        ensures { Self.written self.new ≡ Self.written self.old };
+        ensures kept { Self.written self.new ≡ Self.written self.old }
+        ensures synced { OnOk result (outlasting self.new ≡ Self.written self.new) };
 }
 
 impl<F: io::Write + OpenFile + Drop> Durable for Output<F> {
+    ghost use Rattle.std.specs.Prelude.{None};
+
+    ghost outlasting = { λ _. None };
+
     /// Syncs the file's bytes to its disk.
     fn sync(&mut self) -> Result<(), Halt> {
         match self.inner.sync_data() {
@@ -23,8 +31,13 @@ impl<F: io::Write + OpenFile + Drop> Durable for Output<F> {
     }
 }
 
-/// For tests: what stands in memory outlasts nothing.
+/// For tests: what stands in memory counts as synced.
 impl Durable for Memory {
+    ghost use Rattle.std.specs.Prelude.{Some};
+    ghost use Rattle.bf_device.specs.Memory.{bytes_in};
+
+    ghost outlasting = { λ m. Some (bytes_in m) };
+
     /// Does nothing: memory has no disk to sync to.
     fn sync(&mut self) -> Result<(), Halt> {
         Ok(())
@@ -34,7 +47,8 @@ impl Durable for Memory {
 /// Syncs the device, again after each interruption, and answers true; false where that fails or is interrupted 1,001
 /// times.
 pub(crate) fn try_sync<D: Durable>(device: &mut D) -> bool
-    ensures { D.written device.new ≡ D.written device.old }
+    ensures kept { D.written device.new ≡ D.written device.old }
+    ensures synced { result ≡ true → D.outlasting device.new ≡ D.written device.new }
 {
     for _ in 0..=MOST_INTERRUPTIONS {
         match device.sync() {

@@ -47,10 +47,7 @@ pub(crate) fn attempt_in(number: i64) -> Option<u32>
 }
 
 /// Reads an optional value: `Some(None)` for the empty list, the value for a list of one; None for anything else.
-pub(crate) fn optional_value_in(
-    alloc: Global,
-    value: &Xval,
-) -> Result<Option<Option<Xval>>, OutOfMemory>
+fn optional_value_in(alloc: Global, value: &Xval) -> Result<Option<Option<Xval>>, OutOfMemory>
     ensures { IfOk result (IsFound (λ x. value.now ≡ optional_value_of x)) }
 {
     let Xval::List(values) = value else {

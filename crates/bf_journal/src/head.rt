@@ -2,7 +2,6 @@
 ghost use Rattle.std.specs.Prelude.{◌≡◌, ◌∷◌, IfOk, map, string_bytes};
 ghost use Rattle.bf_value.specs.Views.{list_of};
 ghost use Rattle.bf_interval.specs.Intervals.{IsShownInterval};
-ghost use Rattle.bf_plan.specs.Plans.{task_of};
 ghost use Rattle.bf_journal.specs.Heads.{head_text, head_value, index_fields, interval_value, seed_value, task_value};
 
 use crate::value::{moment_value, text_value};
@@ -18,17 +17,6 @@ const WORDS: &str = "backfill journal";
 /// The version of the journal's format, the second field of its head.
 const VERSION: i64 = 1;
 
-/// Gives the id of the task with this number; empty where there is no such task.
-#[tactic(auto, unfolding(bf_plan::specs::Plans::task_of))]
-pub fn id_of(dag: &Dag, task: u32) -> &str
-    ensures { result.now ≡ (task_of dag.now task).id }
-{
-    match dag.tasks.get(task as usize) {
-        Some(task) => task.id.as_str(),
-        None => "",
-    }
-}
-
 /// Makes a task's entry in the head: a list of its id and the ids of the tasks that it pulls from.
 fn value_of_task(alloc: Global, dag: &Dag, task: &Task) -> Result<Xval, OutOfMemory>
     ensures { IfOk result (λ v. v ≡ task_value dag.now task.now) }
@@ -36,7 +24,7 @@ fn value_of_task(alloc: Global, dag: &Dag, task: &Task) -> Result<Xval, OutOfMem
     let mut ids = Vec::new(alloc);
     ids.push(text_value(alloc, task.id.as_str())?)?;
     for pull in task.pulls.as_slice() {
-        ids.push(text_value(alloc, id_of(dag, *pull))?)?;
+        ids.push(text_value(alloc, dag.id_of(*pull))?)?;
     }
     Ok(Xval::List(Values::new(ids)))
 }

@@ -36,7 +36,7 @@ pub use cuttable::Cuttable;
 pub use durable::Durable;
 pub use fault::JournalFault;
 pub use found::{Found, read_journal};
-pub use head::{ClearedTask, head_of, id_of};
+pub use head::{ClearedTask, head_of};
 pub use journaled::Journaled;
 pub use laws::{
     cut_journals_keep_graded_tries, journals_are_cut_and_gone_on_with, journals_tell_one_list,
@@ -45,7 +45,6 @@ pub use laws::{
 pub use record::record_of;
 pub use recorder::Recorder;
 pub use recording::Recording;
-pub use retrying::WithoutFailed;
 pub use since::Since;
 pub use stamp::Stamp;
 pub use stop::Stop;

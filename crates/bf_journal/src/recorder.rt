@@ -1,7 +1,8 @@
 //! What writes records behind each other.
 ghost use Rattle.std.specs.Prelude.{◌≡◌, ◌+◌, ◌-◌, ◌^◌, min, true, false};
 ghost use Rattle.bf_device.specs.Device.{sent};
-ghost use Rattle.bf_journal.specs.Recording.{GoesOut, IsWritten, is_write_failed, stop_reason_of};
+ghost use Rattle.bf_journal.specs.Recording.{GoesOut, IsWritten, is_write_failed};
+ghost use Rattle.bf_journal.specs.inner.Recording.{stop_reason_of};
 
 use crate::durable::{Durable, try_sync};
 use crate::journaled::Journaled;
@@ -83,7 +84,7 @@ impl<K: Journaled, D: Durable + Drop> Recorder<K, D> {
     /// Writes a record's line to the device, and syncs the device where a second has passed since the last sync. `now`
     /// is the present moment of the monotonic clock. A failure shows in `stop_reason`, and makes later calls write
     /// nothing.
-    pub fn record(&mut self, line: &[u8], now: Duration)
+    pub(crate) fn record(&mut self, line: &[u8], now: Duration)
         requires { K.may_record line.now }
         ensures behind_failure { self.old.write_failed ≡ true → self.new ≡ self.old }
         ensures ok { self.new.write_failed ≡ false → self.new.written
@@ -102,14 +103,14 @@ impl<K: Journaled, D: Durable + Drop> Recorder<K, D> {
     }
 
     /// Notes that memory was wanting for a record, which shows in `stop_reason`.
-    pub fn note_memory_failure(&mut self)
+    pub(crate) fn note_memory_failure(&mut self)
         ensures { self.new ≡ record self.old { memory_failed = true } }
     {
         self.memory_failed = true;
     }
 
     /// Counts one more failed try, up to 2^32 - 1.
-    pub fn count_failed(&mut self)
+    pub(crate) fn count_failed(&mut self)
         ensures { self.new ≡ record self.old
             { failed_tries = min (self.old.failed_tries + 1) (2 ^ 32 - 1) } }
     {
@@ -117,7 +118,7 @@ impl<K: Journaled, D: Durable + Drop> Recorder<K, D> {
     }
 
     /// Gives the reason why no further try is to begin; None while tries may begin.
-    pub fn stop_reason(&self) -> Option<Stop>
+    pub(crate) fn stop_reason(&self) -> Option<Stop>
         ensures { result ≡ stop_reason_of self.now }
     {
         if self.write_failed {
@@ -135,7 +136,7 @@ impl<K: Journaled, D: Durable + Drop> Recorder<K, D> {
     /// Syncs the device, unless a write has failed, and gives it back with the reason why no further try was to begin;
     /// None where tries might still have begun.
     #[tactic(auto, using(crate::proofs::Going::given_up))]
-    pub fn close(mut self) -> (D, Option<Stop>)
+    pub(crate) fn close(mut self) -> (D, Option<Stop>)
         ensures written { IsWritten K.may_record K.base (D.written result.0)
             (is_write_failed result.1) }
         ensures stop { is_write_failed result.1 ≡ false → result.1 ≡ stop_reason_of self }

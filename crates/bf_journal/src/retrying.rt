@@ -14,9 +14,9 @@ use std::alloc::Global;
 /// The tries of a ledger, less the failed ones of instances of which no try succeeded or was skipped. Those are made
 /// again, as by GNU parallel's `--resume-failed`.
 #[derive(Clone, Copy, Drop)]
-pub struct WithoutFailed<'a> {
-    pub plan: &'a Plan,
-    pub tries: &'a Ledger,
+pub(crate) struct WithoutFailed<'a> {
+    pub(crate) plan: &'a Plan,
+    pub(crate) tries: &'a Ledger,
 }
 
 /// Answers whether this entry's try failed; false for None.

@@ -15,8 +15,8 @@ use std::alloc::Global;
 /// The tries that a journal's whole lines record, in order, and how many bytes follow the last line feed.
 #[derive(Drop)]
 pub(crate) struct Told {
-    pub tries: Vec<(JobName, Entry)>,
-    pub torn: usize,
+    pub(crate) tries: Vec<(JobName, Entry)>,
+    pub(crate) torn: usize,
 }
 
 /// Reads the tries that the lines behind a journal's head record, in order. `BadRecord` for the first line that is no

@@ -72,7 +72,7 @@ impl Scale {
 
     /// How many bytes at the front of a moment's text, such as `2024-01-31T06:00:00Z`, name the group of a column: 7
     /// for days, whose group is the month.
-    pub fn group_size(self) -> usize
+    fn group_size(self) -> usize
         ensures { result ≡ group_size_of self }
     {
         match self {
@@ -99,7 +99,7 @@ impl Scale {
 
     /// Adds the label of a group: `group`, as it stands at the front of a moment's text, and for a decade `0s` after
     /// it, such as `2020s`.
-    pub fn push_label(self, label: &mut Vec<u8>, group: &[u8]) -> Result<(), OutOfMemory>
+    fn push_label(self, label: &mut Vec<u8>, group: &[u8]) -> Result<(), OutOfMemory>
         ensures { OnOk result (label.new.items ≡ label.old.items ++ group_label self group.now) }
     {
         push(label, group)?;
@@ -112,7 +112,7 @@ impl Scale {
 
 /// The label, or its last three bytes where it has more than five, or nothing: the first of these that leaves one of
 /// `room` columns free after it.
-pub fn fitted(label: &[u8], room: usize) -> &[u8]
+fn fitted(label: &[u8], room: usize) -> &[u8]
     ensures { result.now ≡ fitted_of room label.now }
 {
     if label.len() < room {

@@ -87,7 +87,8 @@ fn released_by(
 /// The numbers of the tasks without upstreams, in file order.
 fn tasks_without_upstreams(alloc: Global, dag: &Dag) -> Result<Vec<u32>, OutOfMemory>
     requires { IsSound dag.now }
-    ensures { IfOk result (λ tasks. tasks.items ≡ tasks_where dag.now (has_no_upstreams_in dag.now)) }
+    ensures { IfOk result (λ tasks.
+        tasks.items ≡ tasks_where dag.now (has_no_upstreams_in dag.now)) }
 {
     let mut found = Vec::new(alloc);
     for task in 0..dag.tasks.len() as u32 {

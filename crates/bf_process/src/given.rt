@@ -26,14 +26,6 @@ fn push_pull(
     push_value(alloc, text, value)
 }
 
-/// Gives the id of the task with this number; empty where there is no such task. No contract covers this.
-fn id_of(dag: &Dag, task: u32) -> &str {
-    match dag.tasks.get(task as usize) {
-        Some(task) => task.id.as_str(),
-        None => "",
-    }
-}
-
 /// Gives what the pull at this place, from 0, gave; None where nothing was pulled, or there is no such place. No
 /// contract covers this.
 fn pulled_at(given: &Given, place: usize) -> Option<&Xval> {
@@ -61,7 +53,7 @@ pub(crate) fn given_text(
         push_pull(
             alloc,
             &mut text,
-            id_of(dag, *source),
+            dag.id_of(*source),
             pulled_at(given, place),
         )?;
     }

@@ -10,7 +10,7 @@ use bf_value::{OutOfMemory, Sequence, last_line};
 use std::alloc::Global;
 
 /// The most bytes of standard output that a try may write.
-pub const LONGEST_OUTPUT: usize = 1_048_576;
+const LONGEST_OUTPUT: usize = 1_048_576;
 
 /// The most bytes that one read gives.
 const ROOM: usize = 8_192;

@@ -25,7 +25,7 @@ pub struct TryLogs {
 impl TryLogs {
     /// Makes the paths of a try's logs below `folder`, that of all logs; `given_text` is the text of what the try was
     /// given.
-    pub fn in_folder(
+    pub(crate) fn in_folder(
         alloc: Global,
         folder: &str,
         context: &JobContext<'_>,
@@ -61,7 +61,7 @@ pub struct Setting<'c, 'l> {
 
 impl<'c, 'l> Setting<'c, 'l> {
     /// Gives the path of the file that says what the try was given; None where no logs are kept.
-    pub fn path_of_given(&self) -> Option<&str>
+    pub(crate) fn path_of_given(&self) -> Option<&str>
         ensures { option_map (λ path. path.now) result
             ≡ option_map (λ logs. string_bytes logs.now.given) self.now.logs }
     {

@@ -10,7 +10,7 @@ use std::alloc::Global;
 
 /// A variable of a try's environment. The last four are those that Airflow's operators set.
 #[derive(Clone, Copy, Debug, PartialEq, Eq)]
-pub enum Variable {
+pub(crate) enum Variable {
     DagId,
     TaskId,
     /// The run's logical date, which is the start of its data interval.
@@ -57,7 +57,7 @@ pub(crate) fn variables() -> &'static [Variable]
 
 impl Variable {
     /// Gives the variable's name, such as `BACKFILL_DAG_ID`.
-    pub fn name(self) -> &'static str
+    pub(crate) fn name(self) -> &'static str
         ensures { result.now ≡ variable_name self }
     {
         match self {
@@ -79,7 +79,7 @@ impl Variable {
 
     /// Gives the variable's value for a try, moments as `2024-02-14T00:00:00Z`. `clock` is what the clocks of the
     /// graph's zone show at the start of the try's run, from which the dates come.
-    pub fn value(
+    pub(crate) fn value(
         self,
         alloc: Global,
         context: &JobContext<'_>,

@@ -47,7 +47,7 @@ fn print_text<W: Write>(text: &str, out: &mut W) -> Result<Status, CommandFault>
 
 /// Does the command `schema`: writes the JSON Schema of a format's files. `Err` where `out` fails, with how many bytes
 /// went out.
-pub fn answer_schema<W: Write>(format: Format, out: &mut W) -> Result<Status, CommandFault>
+pub(crate) fn answer_schema<W: Write>(format: Format, out: &mut W) -> Result<Status, CommandFault>
     ensures answer { IfOk result (λ status. Sends
         (λ text. IsPrinted (schema_text format) text status) (W.written out.old)
         (W.written out.new)) }
@@ -62,7 +62,10 @@ pub fn answer_schema<W: Write>(format: Format, out: &mut W) -> Result<Status, Co
 
 /// Does the command `completions`: writes the script by which a shell completes command lines. `Err` where `out` fails,
 /// with how many bytes went out.
-pub fn answer_completions<W: Write>(shell: Shell, out: &mut W) -> Result<Status, CommandFault>
+pub(crate) fn answer_completions<W: Write>(
+    shell: Shell,
+    out: &mut W,
+) -> Result<Status, CommandFault>
     ensures answer { IfOk result (λ status. Sends
         (λ text. IsPrinted (completions_text shell) text status) (W.written out.old)
         (W.written out.new)) }

@@ -1,5 +1,5 @@
 //! Where progress is shown.
-ghost use Rattle.std.specs.Prelude.{◌≡◌, IfOk, string_bytes};
+ghost use Rattle.std.specs.Prelude.{◌≡◌, Bool, IfOk, string_bytes};
 ghost use Rattle.bf_progress.specs.inner.Lines.{line_at};
 
 use bf_device::{Output, send};
@@ -9,15 +9,21 @@ use std::io::IsTerminal;
 
 /// Where progress is shown, apart from what a backfill prints.
 pub trait Screen {
+    /// It may be told so whether this is a terminal.
+    ghost may_be_terminal: { Self → Bool → Type 0 };
+
     /// Answers whether this is a terminal, on which a line can be overwritten.
-    fn is_terminal(&self) -> bool;
+    fn is_terminal(&self) -> bool
+        ensures { may_be_terminal self.now result };
 
     /// Shows a text in one write. A failure is ignored: there is nowhere left to report it.
     fn show(&self, text: &str);
 }
 
-/// Standard error.
+/// Standard error. It may be a terminal or not: std says nothing of what it is.
 impl Screen for HostRuntime {
+    ghost may_be_terminal = { λ _ is_terminal. Unit {0} };
+
     /// Answers whether standard error is a terminal.
     fn is_terminal(&self) -> bool {
         self.stderr().is_terminal()

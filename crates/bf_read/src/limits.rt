@@ -10,7 +10,7 @@ pub const MOST_ACTIVE_RUNS: u32 = 4_096;
 pub const MOST_TASKS: usize = 2_000;
 
 /// The most distinct edges that a graph file may have.
-pub const MOST_EDGES: usize = 20_000;
+pub(crate) const MOST_EDGES: usize = 20_000;
 
 /// The most words that a command may have.
 pub const MOST_WORDS: usize = 64;

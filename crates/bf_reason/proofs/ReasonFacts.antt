@@ -3,7 +3,7 @@ use Rattle.std.proofs.Common.{◌≡◌, ℕ, Bool, true, false, not, ◌&&◌, 
 use Rattle.std.specs.List.{list_any, list_all}
 use Rattle.bf_core.specs.Terms.{Xval, Dag, TaskValue, Items, Verdict, task_of, items, verdict}
 use Rattle.bf_core.specs.declared.decision.Decision.{Decision}
-use Rattle.bf_core.specs.Deciding.{Seen, lets_decide_in, branch_is, branch_skips, is_blocked_in, counts_over, lets_pass_in, pulled, mapped, instances_of, after_verdict, past_after, past_ruling, upstream_verdict_of, task_verdict_of, decision}
+use Rattle.bf_core.specs.Deciding.{Seen, lets_decide_in, branch_is, branch_skips, is_blocked_in, counts_over, lets_pass_in, pulled, mapped, instances_of, after_verdict, past_after, past_verdict_of, upstream_verdict_of, task_verdict_of, decision}
 use Rattle.bf_reason.specs.Reasons.{Reason, waits, not_followed, branch_is_blocked, past_has_not_passed, by_items, cause_by_source_of, by_past, cause_by_verdict_of, reason, decided_for}
 
 items_decide : (pulled : List (Option Xval)) (items : Items) → decided_for (by_items pulled items) ≡ mapped pulled items
@@ -27,7 +27,7 @@ passes_decide dag seen task goes_on same false = refl
 
 -- the past, where it is asked and where it isn't
 past_decides : (dag : Dag) (seen : ℕ → Seen) (task : ℕ) (asked : Bool) (before : Option TaskValue) (goes_on : Reason) → decided_for goes_on ≡ after_verdict dag seen task Verdict.Run →
-    decided_for (if asked then by_past goes_on before else goes_on) ≡ after_verdict dag seen task (if asked then past_ruling before else Verdict.Run)
+    decided_for (if asked then by_past goes_on before else goes_on) ≡ after_verdict dag seen task (if asked then past_verdict_of before else Verdict.Run)
 past_decides dag seen task false before goes_on same = same
 past_decides dag seen task true None goes_on same = refl
 past_decides dag seen task true (Some value) goes_on same = passes_decide dag seen task goes_on same (lets_pass_in value)

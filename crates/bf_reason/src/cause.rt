@@ -220,7 +220,8 @@ fn count_pushed(results: &[TaskResult]) -> usize
 
 /// How many items are in the list that a task which isn't expanded pushed; None where it pushed no list.
 fn count_listed(results: &[TaskResult]) -> Option<usize>
-    ensures { result ≡ item_count (items_of (SourceValues.Pushed (only_pushed_value_in results.now))) }
+    ensures { result
+        ≡ item_count (items_of (SourceValues.Pushed (only_pushed_value_in results.now))) }
 {
     let [first, ..] = results else {
         return None;

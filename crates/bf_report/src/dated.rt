@@ -18,7 +18,7 @@ use std::alloc::Global;
 
 /// Makes the report of a task from its finished instances: all of them for an expanded task, else the first, and
 /// `NoStatus` where there is none.
-fn task_report_of(is_expanded: bool, mut instances: Vec<InstanceReport>) -> TaskReport
+fn report_of_instances(is_expanded: bool, mut instances: Vec<InstanceReport>) -> TaskReport
     ensures report { result ≡ reported_instances is_expanded instances.items }
     ensures sound { AreSoundInstances instances.items → IsSoundTask result }
 {
@@ -31,8 +31,14 @@ fn task_report_of(is_expanded: bool, mut instances: Vec<InstanceReport>) -> Task
     TaskReport::Ran(instances.swap_remove(0))
 }
 
-/// Makes the report of a task from its cell in one run; `NoStatus` where the cell is undecided or blocked.
-fn task_report(alloc: Global, dag: &Dag, task: u32, cell: &Cell) -> Result<TaskReport, OutOfMemory>
+/// Makes the report of a task from its cell in one run, without instances that haven't finished. `NoStatus` where the
+/// cell is undecided or blocked, or the task isn't expanded and its instance hasn't finished.
+fn report_of_cell(
+    alloc: Global,
+    dag: &Dag,
+    task: u32,
+    cell: &Cell,
+) -> Result<TaskReport, OutOfMemory>
     requires dag { IsSound dag.now }
     requires task { task < length dag.now.tasks }
     ensures report { IfOk result (λ r. r ≡ reported dag.now task cell.now) }
@@ -44,7 +50,7 @@ fn task_report(alloc: Global, dag: &Dag, task: u32, cell: &Cell) -> Result<TaskR
         Cell::UpstreamFailed => Ok(TaskReport::UpstreamFailed),
         Cell::Ran(instances) => {
             let instances = instance_reports(alloc, dag, task, instances.as_slice())?;
-            Ok(task_report_of(dag.task(task).expand.is_some(), instances))
+            Ok(report_of_instances(dag.task(task).expand.is_some(), instances))
         }
     }
 }
@@ -63,7 +69,7 @@ fn report_at(
     ensures sound { IfOk result IsSoundTask }
 {
     match state.cell(run, task) {
-        Some(cell) => task_report(alloc, dag, task, cell),
+        Some(cell) => report_of_cell(alloc, dag, task, cell),
         None => Ok(TaskReport::NoStatus),
     }
 }

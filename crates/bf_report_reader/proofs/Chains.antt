@@ -5,28 +5,15 @@ use Rattle.bf_report.specs.declared.report.Report.{Report}
 use Rattle.bf_report.specs.Report.{line, report_text}
 use Rattle.bf_report_reader.specs.declared.beginning.ReportSoFar.{ReportSoFar}
 use Rattle.bf_report_reader.specs.Rules.{IsShownReport}
-use Rattle.bf_report_reader.specs.inner.Rules.{IsRuled}
+use Rattle.bf_report_reader.specs.inner.Rules.{KeepsRules}
 use Rattle.bf_report_reader.specs.Faults.{IsInLine, longest_line, Begins, IsReportText}
-use Rattle.bf_report_reader.specs.Beginning.{runs_of, is_whole_at, so_far}
-use Rattle.bf_report_reader.specs.inner.Beginning.{opening_text, IsCounted, IsSmall, room}
+use Rattle.bf_report_reader.specs.inner.Beginning.{opening_text, room, runs_of, is_whole_at, so_far}
 use Rattle.bf_report_reader.specs.inner.Steps.{Follows, MayEnd, MayStand, IsNext}
 use Rattle.bf_report_reader.specs.inner.Extensions.{Leads, Extends, IsKnown}
 use Rattle.bf_report_reader.proofs.Splits.{cut_once, none_stands, within_piece, piece_first}
 use Rattle.bf_report_reader.proofs.Words.{at_least, same_limit}
 use Rattle.bf_report_reader.proofs.StepFacts.{follows_next}
 use Rattle.bf_report_reader.proofs.Lines.{follows_once, end_once, stands_in_line, stands_short}
-
--- what is known of a beginning
-pub record Keeps (b : ReportSoFar) : Type 0 where
-  pub counted : IsCounted b
-  pub small : IsSmall b
-  pub ruled : IsRuled b
-
-pub keeps_next : (b c : ReportSoFar) (text : List ℕ) → IsNext b text c → Keeps c
-keeps_next b c text next = record { counted = next.counted; small = next.small; ruled = next.ruled }
-
-next_of : (b c : ReportSoFar) (text : List ℕ) → Keeps b → Follows b text c → IsNext b text c
-next_of b c text keeps follows = follows_next b c text keeps.counted keeps.small keeps.ruled follows
 
 -- ---- texts
 
@@ -36,11 +23,11 @@ end_of r = line (codes "@end" ∷ decimal (length r.runs) ∷ [])
 report_opens : (r : Report) → report_text r ≡ opening_text r ++ end_of r
 report_opens r = refl
 
-leads_text : (n : ℕ) (b last : ReportSoFar) → Keeps b → Leads n b last → (more : List ℕ) × (opening_text (so_far last) ≡ opening_text (so_far b) ++ more)
+leads_text : (n : ℕ) (b last : ReportSoFar) → KeepsRules b → Leads n b last → (more : List ℕ) × (opening_text (so_far last) ≡ opening_text (so_far b) ++ more)
 leads_text zero b last keeps same = ([], ap (λ (x : ReportSoFar). opening_text (so_far x)) (sym same) ∙ sym (append-nil (opening_text (so_far b))))
 leads_text (suc n) b last keeps (text, next, follows, leads) =
-    let step = next_of b next text keeps follows in
-    let (more, is) = leads_text n next last (keeps_next b next text step) leads in
+    let step = follows_next b next text keeps follows in
+    let (more, is) = leads_text n next last step.kept leads in
     ((text ++ 10 ∷ []) ++ more, is ∙ ap (λ l. l ++ more) step.read ∙ append_assoc (opening_text (so_far b)) (text ++ 10 ∷ []) more)
 
 -- ---- the next line
@@ -60,7 +47,7 @@ pub record IsNextOf (b : ReportSoFar) (report : Report) (text : List ℕ) : Type
   pub onward : (c : ReportSoFar) → Follows b text c → Extends c report
   pub done : MayEnd b text → so_far b ≡ report
 
-pub goes_on : (b : ReportSoFar) (report : Report) → Keeps b → Extends b report → GoesOn (opening_text (so_far b)) report (IsNextOf b report)
+pub goes_on : (b : ReportSoFar) (report : Report) → KeepsRules b → Extends b report → GoesOn (opening_text (so_far b)) report (IsNextOf b report)
 goes_on b report keeps extends = go extends.lines extends.leads
   where
     go : (n : ℕ) → Leads n b extends.last → GoesOn (opening_text (so_far b)) report (IsNextOf b report)
@@ -76,8 +63,8 @@ goes_on b report keeps extends = go extends.lines extends.leads
           stands = record { stands = inr ends; onward = λ c follows. absurd (end_once b c _ keeps.ruled follows ends); done = λ e. is };
         }
     go (suc n) (text, next, follows, leads) =
-        let step = next_of b next text keeps follows in
-        let (more, is) = leads_text n next extends.last (keeps_next b next text step) leads in
+        let step = follows_next b next text keeps follows in
+        let (more, is) = leads_text n next extends.last step.kept leads in
         let opening = opening_text (so_far b) in
         let on : Extends next report = record { lines = n; last = extends.last; leads = leads; whole = extends.whole; is = extends.is } in
         record {
@@ -129,10 +116,10 @@ not_yet opening Stands goes whole =
 
 -- ---- as far as it was read
 
-pub known_goes : (b : ReportSoFar) → Keeps b → IsKnown b → Goes (opening_text (so_far b)) (IsNextOf b)
+pub known_goes : (b : ReportSoFar) → KeepsRules b → IsKnown b → Goes (opening_text (so_far b)) (IsNextOf b)
 known_goes b keeps known report more shown is = goes_on b report keeps (known report more shown is)
 
-pub known_next : (b c : ReportSoFar) (text : List ℕ) → Keeps b → IsKnown b → IsNext b text c → IsKnown c
+pub known_next : (b c : ReportSoFar) (text : List ℕ) → KeepsRules b → IsKnown b → IsNext b text c → IsKnown c
 known_next b c text keeps known next report more shown is =
     let opening = opening_text (so_far b) in
     let same : report_text report ≡ opening ++ ((text ++ 10 ∷ []) ++ more) = is ∙ ap (λ l. l ++ more) next.read ∙ append_assoc opening (text ++ 10 ∷ []) more in
@@ -143,7 +130,7 @@ known_next b c text keeps known next report more shown is =
 -- ---- two reports
 
 -- from one beginning there is one report to a text, whatever follows it
-pub one_report : (fuel : ℕ) (b : ReportSoFar) (one two : Report) (more : List ℕ) → room b < fuel → Keeps b → Extends b one → Extends b two → report_text two ≡ report_text one ++ more → one ≡ two
+pub one_report : (fuel : ℕ) (b : ReportSoFar) (one two : Report) (more : List ℕ) → room b < fuel → KeepsRules b → Extends b one → Extends b two → report_text two ≡ report_text one ++ more → one ≡ two
 one_report zero b one two more less keeps first second is = absurd (omega (arith, less))
 one_report (suc fuel) b one two more less keeps first second is =
     let opening = opening_text (so_far b) in
@@ -154,7 +141,7 @@ one_report (suc fuel) b one two more less keeps first second is =
     let line : z.next ≡ a.next = (same_line opening two (IsNextOf b two) a.next (a.more ++ more) z a.in_line same).0 in
     elim a.stands.stands [
       | inl (c, follows) ↦
-          let next = next_of b c a.next keeps follows in
-          one_report fuel c one two more (omega (arith, less, next.shrinks)) (keeps_next b c a.next next) (a.stands.onward c follows) (z.stands.onward c (subst (λ t. Follows b t c) (sym line) follows)) is
+          let next = follows_next b c a.next keeps follows in
+          one_report fuel c one two more (omega (arith, less, next.shrinks)) next.kept (a.stands.onward c follows) (z.stands.onward c (subst (λ t. Follows b t c) (sym line) follows)) is
       | inr ends ↦ sym (a.stands.done ends) ∙ z.stands.done (subst (MayEnd b) (sym line) ends)
     ]

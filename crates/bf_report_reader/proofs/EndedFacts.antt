@@ -15,6 +15,7 @@ use Rattle.bf_interval.specs.declared.interval.Interval.{Interval}
 use Rattle.bf_interval.specs.Runs.{IsOfRun, IsSecondTo2208}
 use Rattle.bf_plan.specs.declared.plan.Dag.{Dag}
 use Rattle.bf_plan.specs.Plans.{task_of}
+use Rattle.bf_plan.specs.Sound.{IsSound as IsSoundDag}
 use Rattle.bf_mapped.specs.declared.source.Items.{Items}
 use Rattle.bf_xcom.specs.declared.values.Given.{Given}
 use Rattle.bf_xcom.specs.declared.values.Outcome.{Outcome}
@@ -37,6 +38,7 @@ use Rattle.bf_core.specs.Cores.{IsJournal}
 use Rattle.bf_core.specs.Few.{AreFew, AreFitting, IsFew, IsFitting, HasFitting}
 use Rattle.bf_core.proofs.Attempts.{last_try_from}
 use Rattle.bf_core.proofs.Fitting.{few_after, fitting_after}
+use Rattle.bf_core.proofs.Outcomes.{finished_results, outcome_value}
 use Rattle.bf_core.proofs.Starting.{start_few, start_fitting}
 use Rattle.bf_report.specs.Values.{IsSoundOutcome}
 use Rattle.bf_report_reader.specs.Entries.{IsShownValue, IsShownOutcome, IsTries}
@@ -88,10 +90,6 @@ pub tries_are : (dag : Dag) (ledger : Ledger) (k t i : ℕ) → (task_of dag t).
 unfolding result_of
 tries_are dag ledger k t i few =
     (last_try_from (outcome_at dag ledger k t i) 1 (task_of dag t).retries, omega (arith, last_try_to (outcome_at dag ledger k t i) 1 (task_of dag t).retries))
-
-finished_results : (result : ℕ → TaskResult) (i : ℕ) (gs : List Given) → results (finished_from result i gs) ≡ Some (results_from result i gs)
-finished_results result i [] = refl
-finished_results result i (g ∷ gs) = rw (finished_results result (suc i) gs) refl
 
 length_results_from : (result : ℕ → TaskResult) (i : ℕ) (gs : List Given) → length (results_from result i gs) ≡ length (finished_from result i gs)
 length_results_from result i [] = refl
@@ -160,12 +158,12 @@ value_fits dag t result (Decision.Instances gs) v few fit is =
     let same : TaskValue.Ran rs ≡ v = cc (ran, is) in
     subst (FitsValue dag t) same (omega (arith, length_results_from result 0 gs, few), results_fit dag t result 0 gs fit)
 
-pub out_fits : (dag : Dag) (runs : ℕ) (s : State) → IsOutcome dag runs s → AreFew s → AreFitting dag s → (k t : ℕ) → k < runs → t < length dag.tasks → FitsValue dag t (out dag (entry_in s.ledger) k t)
-out_fits dag runs s is few fit k t l m =
+pub out_fits : (dag : Dag) → IsSoundDag dag → (runs : ℕ) (s : State) → IsOutcome dag runs s → AreFew s → AreFitting dag s → (k t : ℕ) → k < runs → t < length dag.tasks → FitsValue dag t (out dag (entry_in s.ledger) k t)
+out_fits dag sound runs s is few fit k t l m =
     let ledger = entry_in s.ledger in
     let cell : cell_at s k t ≡ final_cell (decided dag ledger k t) (result_of dag ledger k t) = is.cells k t l m in
     let F : Cell → Type 0 = λ c. HasFitting dag t c in
-    value_fits dag t (result_of dag ledger k t) (decided dag ledger k t) (out dag ledger k t) (subst IsFew cell (few k t)) (subst F cell (fit k t)) (ap value_in (sym cell) ∙ is.values k t l m)
+    value_fits dag t (result_of dag ledger k t) (decided dag ledger k t) (out dag ledger k t) (subst IsFew cell (few k t)) (subst F cell (fit k t)) (ap value_in (sym cell) ∙ outcome_value dag sound runs s is k t l m)
 
 -- ---- what instances are given
 

@@ -26,8 +26,8 @@ use Rattle.bf_report_reader.specs.declared.beginning.ReportSoFar.{ReportSoFar}
 use Rattle.bf_report_reader.specs.inner.Parts.{part_text}
 use Rattle.bf_report_reader.specs.inner.Rules.{IsOpenInstance, IsOpenTask, IsOpenRun, IsRuled}
 use Rattle.bf_report_reader.specs.inner.Entries.{entry_text}
-use Rattle.bf_report_reader.specs.Beginning.{task_with, open_task, tasks_in, open_count, task_count_of, closed, last_run, runs_of, run_count_of, tells_item, most_told, has_item, takes_at, with_told, untold, has_its_item_at, is_whole_in, is_whole_at, starts_before, is_text, is_new_id_in, is_next_in, is_next_id_at, ids_with, is_further, is_further_task, goes_on_in, is_next_instance_at, takes_task, may_take_part_in, put_task, put_open, further, put_further, told, put_part, may_begin_in, with_run, with_task, with_open, with_further, with_part, with_entry, so_far}
-use Rattle.bf_report_reader.specs.inner.Beginning.{IsCountedIn, IsCounted, opening_text}
+use Rattle.bf_report_reader.specs.Beginning.{task_with, open_task, tasks_in, open_count, task_count_of, closed, tells_item, most_told, has_item, untold, has_its_item_at, is_text, is_new_id_in, is_next_in, is_next_id_at, ids_with, is_further, is_further_task, goes_on_in, is_next_instance_at, put_task, put_open, further, put_further, with_task, with_open, with_further, with_entry}
+use Rattle.bf_report_reader.specs.inner.Beginning.{IsCountedIn, IsCounted, opening_text, last_run, runs_of, run_count_of, takes_at, with_told, is_whole_in, is_whole_at, starts_before, takes_task, may_take_part_in, told, put_part, may_begin_in, with_run, with_part, so_far}
 use Rattle.bf_report_reader.proofs.Words.{id_utf8}
 
 -- the line of a task

@@ -13,12 +13,12 @@ use Rattle.bf_report_reader.proofs.HeldFacts.{nothing_first, consumes_more}
 use Rattle.bf_report_reader.specs.Faults.{IsInLine, longest_line, lines_in, IsOpening, Tells}
 use Rattle.bf_report_reader.specs.inner.Faults.{StopsAt}
 use Rattle.bf_report_reader.specs.declared.beginning.ReportSoFar.{ReportSoFar}
-use Rattle.bf_report_reader.specs.Beginning.{so_far}
-use Rattle.bf_report_reader.specs.inner.Beginning.{opening_text}
+use Rattle.bf_report_reader.specs.inner.Beginning.{opening_text, so_far}
+use Rattle.bf_report_reader.specs.inner.Rules.{KeepsRules}
 use Rattle.bf_report_reader.specs.inner.Steps.{ReadsOn, MayStand}
 use Rattle.bf_report_reader.specs.inner.Extensions.{SaysHead, IsKnown}
 use Rattle.bf_report_reader.proofs.Paths.{head_of}
-use Rattle.bf_report_reader.proofs.Chains.{Keeps, Goes, IsNextOf, known_goes, no_such_line, no_long_line}
+use Rattle.bf_report_reader.proofs.Chains.{Goes, IsNextOf, known_goes, no_such_line, no_long_line}
 use Rattle.bf_report_reader.proofs.Reports.{head_goes, opens, opens_nothing}
 
 -- text within a line ends none
@@ -83,7 +83,7 @@ first_stops left bytes number fault none first stops =
     go (Some told) stops = stops_tell [] (λ r text. SaysHead text (head_of r)) (number + 1) fault told opens_nothing head_goes (ap (λ n. n + 1) first) stops
 
 -- a line did not come behind what was read
-pub read_stops : (a b : Option (List ℕ)) (before : List ℕ) (read : ReportSoFar) (number : ℕ) (fault : ReportFault) → ReadsOn a b before (opening_text (so_far read)) → Keeps read → IsKnown read → number ≡ lines_in (opening_text (so_far read))
+pub read_stops : (a b : Option (List ℕ)) (before : List ℕ) (read : ReportSoFar) (number : ℕ) (fault : ReportFault) → ReadsOn a b before (opening_text (so_far read)) → KeepsRules read → IsKnown read → number ≡ lines_in (opening_text (so_far read))
     → IfSome b (StopsAt fault (number + 1)) → IfSome a (λ bytes. Tells (before ++ bytes) fault)
 read_stops a b before read number fault on keeps known place stops = tells_on a b before after fault on (go b stops)
   where
@@ -119,7 +119,7 @@ first_told left b bytes text none came in_line short other =
     line_told [] text (λ r line. SaysHead line (head_of r)) 1 left b opens_nothing head_goes (λ report. other (head_of report)) refl (subst P (ap (λ l. prepend_known l left) none ∙ nothing_first left) came) in_line short
 
 -- behind what was read
-pub line_tells : (a b c : Option (List ℕ)) (before text : List ℕ) (read : ReportSoFar) (number : ℕ) → ReadsOn a b before (opening_text (so_far read)) → Keeps read → IsKnown read → (MayStand read text → ⊥) → number ≡ lines_in (opening_text (so_far read)) + 1
+pub line_tells : (a b c : Option (List ℕ)) (before text : List ℕ) (read : ReportSoFar) (number : ℕ) → ReadsOn a b before (opening_text (so_far read)) → KeepsRules read → IsKnown read → (MayStand read text → ⊥) → number ≡ lines_in (opening_text (so_far read)) + 1
     → Consumes b c (text ++ 10 ∷ []) → IsInLine text → length text ≤ longest_line text → IfSome a (λ bytes. Tells (before ++ bytes) (ReportFault.BadLine number))
 line_tells a b c before text read number on keeps known none place came in_line short =
     tells_on a b before (opening_text (so_far read)) (ReportFault.BadLine number) on

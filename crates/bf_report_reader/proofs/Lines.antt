@@ -26,10 +26,10 @@ use Rattle.bf_report_reader.specs.Parts.{IsToldItem, IsToldPull}
 use Rattle.bf_report_reader.specs.inner.Parts.{IsPart, pull_words, part_text}
 use Rattle.bf_report_reader.specs.Runs.{IsRunInterval}
 use Rattle.bf_report_reader.specs.inner.Runs.{run_words}
-use Rattle.bf_report_reader.specs.inner.Rules.{IsRuled}
+use Rattle.bf_report_reader.specs.inner.Rules.{IsRuled, KeepsRules}
 use Rattle.bf_report_reader.specs.Faults.{IsInLine, longest_line}
-use Rattle.bf_report_reader.specs.Beginning.{task_count_of, runs_of, is_text, is_next_in, is_next_id_at, is_further_task, goes_on_in, is_next_instance_at, with_entry, with_run, with_part}
-use Rattle.bf_report_reader.specs.inner.Beginning.{IsCounted, IsSmall}
+use Rattle.bf_report_reader.specs.Beginning.{task_count_of, is_text, is_next_in, is_next_id_at, is_further_task, goes_on_in, is_next_instance_at, with_entry}
+use Rattle.bf_report_reader.specs.inner.Beginning.{runs_of, with_run, with_part}
 use Rattle.bf_report_reader.specs.declared.reading.Step.{Step}
 use Rattle.bf_report_reader.specs.inner.Reads.{IsWord}
 use Rattle.bf_report_reader.specs.inner.Steps.{Follows, MayEnd, MayStand, Steps, EntrySteps, EndsBy}
@@ -206,10 +206,10 @@ stands_short b text ruled (inr ends) = short_enough text (omega (arith, ap lengt
 none_added : {X : Type 0} (o p : Option X) (x : X) → o ≡ None → o ≡ p → p ≡ Some x → ⊥
 none_added o p x none same some = absurd (cc (none, same, some))
 
-pub entry_step : (b c : ReportSoFar) (id text : List ℕ) (e : Entry) (taken : Bool) → IsCounted b → IsSmall b → IsRuled b → IsEntry e → text ≡ entry_text e → with_entry b id e ≡ cond taken (Some c) None
+pub entry_step : (b c : ReportSoFar) (id text : List ℕ) (e : Entry) (taken : Bool) → KeepsRules b → IsEntry e → text ≡ entry_text e → with_entry b id e ≡ cond taken (Some c) None
     → EntrySteps (cond taken Step.Taken Step.Refused) b id text c
-entry_step b c id text e true counted small ruled good spelled added = entry_next b c id (id ++ 32 ∷ text) e counted small ruled good (ap (λ t. id ++ 32 ∷ t) spelled) added
-entry_step b c id text e false counted small ruled good spelled none = λ f other too spelled' added. none_added _ _ other none (ap (with_entry b id) (same_entry e f good too (sym spelled ∙ spelled'))) added
+entry_step b c id text e true keeps good spelled added = entry_next b c id (id ++ 32 ∷ text) e keeps good (ap (λ t. id ++ 32 ∷ t) spelled) added
+entry_step b c id text e false keeps good spelled none = λ f other too spelled' added. none_added _ _ other none (ap (with_entry b id) (same_entry e f good too (sym spelled ∙ spelled'))) added
 
 -- no run is spelled
 pub no_run : (b : ReportSoFar) (text : List ℕ) → IsRuled b → ((run : RunReport) (c : ReportSoFar) → run.tasks ≡ [] → IsRunInterval run.interval → text ≡ run_words (run.interval, run.state) → with_run b run ≡ Some c → ⊥)
@@ -219,11 +219,11 @@ no_run b text ruled none (inl (c, inr (inr one))) = run_not_part one.part _ one.
 no_run b text ruled none (inl (c, inr (inl one))) = none one.run c one.bare one.good (cut_once 32 (codes "@run") (codes "@run") text _ refl refl one.spelled).1 one.added
 no_run b text ruled none (inr ends) = run_not_end _ _ ends.0
 
-pub run_step : (b c : ReportSoFar) (text : List ℕ) (run : RunReport) (taken : Bool) → run.tasks ≡ [] → IsRunInterval run.interval → IsCounted b → IsSmall b → IsRuled b → text ≡ run_words (run.interval, run.state)
+pub run_step : (b c : ReportSoFar) (text : List ℕ) (run : RunReport) (taken : Bool) → run.tasks ≡ [] → IsRunInterval run.interval → KeepsRules b → text ≡ run_words (run.interval, run.state)
     → with_run b run ≡ cond taken (Some c) None → Steps (cond taken Step.Taken Step.Refused) b (codes "@run" ++ 32 ∷ text) c
-run_step b c text run true bare good counted small ruled spelled added = run_next b c (codes "@run" ++ 32 ∷ text) run bare good counted small ruled (ap (λ t. codes "@run" ++ 32 ∷ t) spelled) added
-run_step b c text run false bare good counted small ruled spelled none =
-    no_run b text ruled (λ s other too fine spelled' added. none_added _ _ other none (ap (with_run b) (same_bare run s bare too good fine (sym spelled ∙ spelled'))) added)
+run_step b c text run true bare good keeps spelled added = run_next b c (codes "@run" ++ 32 ∷ text) run bare good keeps (ap (λ t. codes "@run" ++ 32 ∷ t) spelled) added
+run_step b c text run false bare good keeps spelled none =
+    no_run b text keeps.ruled (λ s other too fine spelled' added. none_added _ _ other none (ap (with_run b) (same_bare run s bare too good fine (sym spelled ∙ spelled'))) added)
 
 -- no item and no pull is spelled
 pub no_item_line : (b : ReportSoFar) (text : List ℕ) → IsRuled b → ((v : Xval) (c : ReportSoFar) → IsToldItem v → text ≡ json_of v → with_part b (GivenPart.Item v) ≡ Some c → ⊥) → MayStand b (codes "@item" ++ 32 ∷ text) → ⊥
@@ -246,16 +246,16 @@ no_pull_line b text ruled none (inl (c, inr (inr one))) = go one.part one.good o
     go (GivenPart.Item v) good spelled added = apart (codes "@pull") (codes "@item") text (json_of v) refl refl refl refl spelled
 no_pull_line b text ruled none (inr ends) = apart (codes "@pull") (codes "@end") text _ refl refl refl refl ends.0
 
-pub part_step : (b c : ReportSoFar) (line : List ℕ) (part : GivenPart) (taken : Bool) → IsCounted b → IsSmall b → IsRuled b → IsPart part → line ≡ part_text part → with_part b part ≡ cond taken (Some c) None
+pub part_step : (b c : ReportSoFar) (line : List ℕ) (part : GivenPart) (taken : Bool) → KeepsRules b → IsPart part → line ≡ part_text part → with_part b part ≡ cond taken (Some c) None
     → Steps (cond taken Step.Taken Step.Refused) b line c
-part_step b c line part true counted small ruled good spelled added = part_next b c line part counted small ruled good spelled added
-part_step b c line part false counted small ruled good spelled none =
+part_step b c line part true keeps good spelled added = part_next b c line part keeps good spelled added
+part_step b c line part false keeps good spelled none =
     let P : List ℕ → Type 0 = λ l. MayStand b l → ⊥ in
     subst P (sym spelled) (go part good none)
   where
     go : (part : GivenPart) → IsPart part → with_part b part ≡ None → MayStand b (part_text part) → ⊥
-    go (GivenPart.Item v) good none = no_item_line b (json_of v) ruled (λ w other too spelled' added. none_added _ _ other none (ap (λ x. with_part b (GivenPart.Item x)) (same_told 64 65_536 v w good too spelled')) added)
-    go (GivenPart.Pull p) good none = no_pull_line b (pull_words p) ruled (λ q other too spelled' added. none_added _ _ other none (ap (λ x. with_part b (GivenPart.Pull x)) (same_pull p q good too spelled')) added)
+    go (GivenPart.Item v) good none = no_item_line b (json_of v) keeps.ruled (λ w other too spelled' added. none_added _ _ other none (ap (λ x. with_part b (GivenPart.Item x)) (same_told 64 65_536 v w good too spelled')) added)
+    go (GivenPart.Pull p) good none = no_pull_line b (pull_words p) keeps.ruled (λ q other too spelled' added. none_added _ _ other none (ap (λ x. with_part b (GivenPart.Pull x)) (same_pull p q good too spelled')) added)
 
 pub no_end : (b : ReportSoFar) (text : List ℕ) → IsRuled b → (MayEnd b (codes "@end" ++ 32 ∷ text) → ⊥) → MayStand b (codes "@end" ++ 32 ∷ text) → ⊥
 no_end b text ruled none (inl (c, inl one)) = not_end one.id _ _ (entry_id b c one.id one.entry ruled one.added) (sym one.spelled)

@@ -13,7 +13,8 @@ use Rattle.bf_report_reader.specs.declared.entry.Untried.{Untried}
 use Rattle.bf_report_reader.specs.declared.part.GivenPart.{GivenPart}
 use Rattle.bf_report_reader.specs.Open.{OpenTask, RunSoFar}
 use Rattle.bf_report_reader.specs.Parting.{parted_with, parted, expanded_by, open_by, last_open, open_in, shut_with, shut_by, shut_in, run_so_far}
-use Rattle.bf_report_reader.specs.Beginning.{open_task, task_count_of, closed, never_report, has_item, takes_at, is_given_task, takes_task, is_further_task, further, told, untold, with_told, put_task, put_open, put_further, put_part}
+use Rattle.bf_report_reader.specs.Beginning.{open_task, task_count_of, closed, never_report, has_item, is_given_task, is_further_task, further, untold, put_task, put_open, put_further}
+use Rattle.bf_report_reader.specs.inner.Beginning.{takes_at, takes_task, told, with_told, put_part}
 use Rattle.bf_report_reader.specs.inner.Lasts.{put_last, at_last, told_task, further_task}
 use Rattle.bf_report_reader.proofs.Growth.{get_last, count_is}
 
@@ -63,6 +64,14 @@ set_last {X = X} xs n x y change long is new = by (parted xs) (parted_is xs)
         let at : Some (get_or xs (n - 1) x) ≡ Some last = sym (got_is xs (n - 1) x (omega (arith, long, seam, ap length ends, length-append front (last ∷ [])))) ∙ ap (λ l. slice_get l (n - 1)) ends ∙ get_last front last (n - 1) seam in
         let same : x ≡ last = is ∙ ap (λ o. unwrap_or o x) at in
         ap (λ l. slice_set l (n - 1) y) ends ∙ ap (λ k. slice_set (front ++ last ∷ []) k y) seam ∙ set-append_seam front last [] y ∙ ap (λ z. front ++ z ∷ []) (new ∙ ap change same)
+
+put_same : {X : Type 0} (xs : List X) (parts : Option (List X × X)) → IsParted xs parts → put_last (λ z. z) parts ≡ xs
+put_same xs None none = sym none
+put_same xs (Some (front, last)) ends = sym ends
+
+-- the last is put back
+pub same_last : {X : Type 0} (xs : List X) (n : ℕ) (x y : X) → n ≡ length xs → x ≡ get_or xs (n - 1) x → y ≡ x → slice_set xs (n - 1) y ≡ xs
+same_last xs n x y long is same = set_last xs n x y (λ z. z) long is same ∙ put_same xs (parted xs) (parted_is xs)
 
 -- ---- all tasks
 

@@ -29,7 +29,8 @@ use Rattle.bf_report_reader.specs.Parts.{IsToldPull}
 use Rattle.bf_report_reader.specs.inner.Parts.{IsPart, part_text}
 use Rattle.bf_report_reader.specs.inner.Runs.{run_words}
 use Rattle.bf_report_reader.specs.Rules.{MayHaveItem, IsShownInstance, IsShownTask, IsShownRun, Rise, IsShownReport}
-use Rattle.bf_report_reader.specs.Beginning.{task_with, tasks_in, task_count_of, closed, runs_of, run_count_of, so_far, tells_item, most_told, has_item, untold, is_given_task, is_whole_at, may_begin_in, is_text, is_next_in, ids_with, with_entry, with_part}
+use Rattle.bf_report_reader.specs.Beginning.{task_with, tasks_in, task_count_of, closed, tells_item, most_told, has_item, untold, is_given_task, is_text, is_next_in, ids_with, with_entry}
+use Rattle.bf_report_reader.specs.inner.Beginning.{runs_of, run_count_of, so_far, is_whole_at, may_begin_in, with_part}
 use Rattle.bf_report_reader.specs.inner.Steps.{Follows}
 use Rattle.bf_report_reader.specs.inner.Extensions.{start, Leads, Extends}
 use Rattle.bf_report_reader.proofs.Growth.{count_is}

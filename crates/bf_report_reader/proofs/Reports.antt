@@ -28,8 +28,9 @@ use Rattle.bf_report_reader.specs.Parts.{IsToldItem}
 use Rattle.bf_report_reader.specs.inner.Parts.{pull_words, part_text}
 use Rattle.bf_report_reader.specs.inner.Runs.{run_words}
 use Rattle.bf_report_reader.specs.Rules.{IsShownReport}
-use Rattle.bf_report_reader.specs.Beginning.{task_count_of, so_far, is_given_task, is_given_in, has_its_item_at, is_whole_in, is_next_in, ids_with, takes_task, may_take_part_in, put_task, put_part, with_entry}
-use Rattle.bf_report_reader.specs.inner.Beginning.{opening_text, IsCountedIn, room}
+use Rattle.bf_report_reader.specs.Beginning.{task_count_of, is_given_task, is_given_in, has_its_item_at, is_next_in, ids_with, put_task, with_entry}
+use Rattle.bf_report_reader.specs.inner.Beginning.{opening_text, IsCountedIn, room, so_far, is_whole_in, takes_task, may_take_part_in, put_part}
+use Rattle.bf_report_reader.specs.inner.Rules.{KeepsRules}
 use Rattle.bf_report_reader.specs.inner.Steps.{IsNext}
 use Rattle.bf_report_reader.specs.inner.Extensions.{head_words, SaysHead, start, Extends, IsKnown}
 use Rattle.bf_report_reader.specs.Faults.{IsInLine, AreLines, Begins, IsOpening, IsReportText, IsFromOutside, Tells}
@@ -37,7 +38,7 @@ use Rattle.bf_report_reader.proofs.Splits.{cut_once, none_stands, tails}
 use Rattle.bf_report_reader.proofs.Words.{id_lacks, id_short, version_plain, at_least}
 use Rattle.bf_report_reader.proofs.Ruled.{report_ruled}
 use Rattle.bf_report_reader.proofs.StepFacts.{entry_next, part_next}
-use Rattle.bf_report_reader.proofs.Chains.{Keeps, Goes, IsNextOf, known_goes, not_yet, end_of, keeps_next, one_report}
+use Rattle.bf_report_reader.proofs.Chains.{Goes, IsNextOf, known_goes, not_yet, end_of, one_report}
 use Rattle.bf_report_reader.proofs.Paths.{head_of, starts, text_true}
 
 -- ---- the head line
@@ -92,7 +93,7 @@ known_start head good report more shown is =
     let same : head_of report ≡ head = same_head (head_of report) head (behind_head report) more shown.dag_id good (sym (head_first report) ∙ is ∙ ap (λ l. l ++ more) (start_text head)) in
     subst (λ h. Extends (start h) report) same (starts report shown)
 
-pub keeps_start : (head : Version × List ℕ) → is_id_in head.1 ≡ true → Keeps (start head)
+pub keeps_start : (head : Version × List ℕ) → is_id_in head.1 ≡ true → KeepsRules (start head)
 keeps_start head good = record {
   counted = refl;
   small = omega arith;
@@ -143,24 +144,24 @@ begun b c text step rest = record {
   text_is = rest.text_is ∙ ap (λ l. l ++ rest.more) step.read ∙ append_assoc (opening_text (so_far b)) (text ++ 10 ∷ []) rest.more;
 }
 
-begins_by : (fuel : ℕ) (b : ReportSoFar) → room b < fuel → Keeps b → Begins (opening_text (so_far b))
+begins_by : (fuel : ℕ) (b : ReportSoFar) → room b < fuel → KeepsRules b → Begins (opening_text (so_far b))
 begins_by zero b less keeps = absurd (omega (arith, less))
 begins_by (suc fuel) b less keeps = elim (cases_Bool (has_its_item_at b)) [
   | inl given ↦ elim (cases_Bool (is_whole_in b.run b.tasks)) [
-    | inl whole ↦ record { report = so_far b; more = end_of (so_far b); shown = report_ruled b keeps.counted keeps.small keeps.ruled (rw (given, whole) refl); text_is = refl }
+    | inl whole ↦ record { report = so_far b; more = end_of (so_far b); shown = report_ruled b keeps (rw (given, whole) refl); text_is = refl }
     | inr short ↦
         let (id, next) = lacks_task b.runs b.tasks b.run keeps.counted short in
         let e : Entry = Entry.Never Untried.NoStatus in
         let c : ReportSoFar = record b { tasks = ids_with b.runs b.tasks id; run = put_task b.run TaskReport.NoStatus } in
         let text = id ++ 32 ∷ entry_text e in
-        let step = entry_next b c id text e keeps.counted keeps.small keeps.ruled tt refl (filled b id given next) in
-        begun b c text step (begins_by fuel c (omega (arith, less, step.shrinks)) (keeps_next b c text step))
+        let step = entry_next b c id text e keeps tt refl (filled b id given next) in
+        begun b c text step (begins_by fuel c (omega (arith, less, step.shrinks)) step.kept)
   ]
   | inr lacks ↦
       let part : GivenPart = GivenPart.Item Nil in
       let c : ReportSoFar = record b { run = put_part b.run part } in
-      let step = part_next b c (part_text part) part keeps.counted keeps.small keeps.ruled null_told refl (rw (lacking b.version b.run lacks) refl) in
-      begun b c (part_text part) step (begins_by fuel c (omega (arith, less, step.shrinks)) (keeps_next b c (part_text part) step))
+      let step = part_next b c (part_text part) part keeps null_told refl (rw (lacking b.version b.run lacks) refl) in
+      begun b c (part_text part) step (begins_by fuel c (omega (arith, less, step.shrinks)) step.kept)
 ]
 
 -- ---- whole lines
@@ -192,7 +193,7 @@ task_lines id (TaskReport.Mapped xs) = lines_flat (λ (p : ℕ × InstanceReport
 run_lines : (ids : List (List ℕ)) (r : RunReport) → AreLines (run_text ids r)
 run_lines ids r = lines_append (run_line r) (tasks_text ids r.tasks) (inr (codes "@run" ++ 32 ∷ run_words (r.interval, r.state), refl)) (lines_flat (λ (p : List ℕ × TaskReport). task_text p.0 p.1) (zip ids r.tasks) (λ p. task_lines p.0 p.1))
 
-pub opens : (b : ReportSoFar) → Keeps b → IsKnown b → IsOpening (opening_text (so_far b))
+pub opens : (b : ReportSoFar) → KeepsRules b → IsKnown b → IsOpening (opening_text (so_far b))
 opens b keeps known = record {
   lines = lines_append (head_line b.version b.dag_id) (flat_map (run_text b.tasks) (so_far b).runs) (inr (head_words (b.version, b.dag_id), refl)) (lines_flat (run_text b.tasks) (so_far b).runs (run_lines b.tasks));
   begins = begins_by (suc (room b)) b (omega arith) keeps;

@@ -14,8 +14,8 @@ use Rattle.bf_report_reader.specs.Open.{OpenTask}
 use Rattle.bf_report_reader.specs.declared.open.OpenRun.{OpenRun}
 use Rattle.bf_report_reader.specs.declared.beginning.ReportSoFar.{ReportSoFar}
 use Rattle.bf_report_reader.specs.inner.Entries.{IsEntry}
-use Rattle.bf_report_reader.specs.Beginning.{tasks_in, task_count_of, last_run, run_count_of, tells_item, most_told, has_item, takes_at, with_told, untold, is_text, is_next_in, is_next_id_at, ids_with, is_further, is_further_task, goes_on_in, is_next_instance_at, takes_task, may_take_part_in, put_task, put_open, further, put_further, put_part, may_begin_in, with_run, with_task, with_open, with_further, with_part, with_entry}
-use Rattle.bf_report_reader.specs.inner.Beginning.{IsCountedIn, IsCounted, item_room, instance_room, before_room, task_room, open_room, room, IsSmall}
+use Rattle.bf_report_reader.specs.Beginning.{tasks_in, task_count_of, tells_item, most_told, has_item, untold, is_text, is_next_in, is_next_id_at, ids_with, is_further, is_further_task, goes_on_in, is_next_instance_at, put_task, put_open, further, put_further, with_task, with_open, with_further, with_entry}
+use Rattle.bf_report_reader.specs.inner.Beginning.{IsCountedIn, IsCounted, item_room, instance_room, before_room, task_room, open_room, room, IsSmall, last_run, run_count_of, takes_at, with_told, takes_task, may_take_part_in, put_part, may_begin_in, with_run, with_part}
 use Rattle.bf_report_reader.proofs.Growth.{if_some, count_is, get_within, is_text_of, next_parts, further_parts, begin_parts, no_item, not_true, new_parts, pull_parts}
 
 -- ---- a task

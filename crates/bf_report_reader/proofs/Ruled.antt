@@ -27,10 +27,10 @@ use Rattle.bf_report_reader.specs.Entries.{IsShownResult}
 use Rattle.bf_report_reader.specs.inner.Entries.{IsEntry}
 use Rattle.bf_report_reader.specs.Runs.{IsRunInterval}
 use Rattle.bf_report_reader.specs.inner.Parts.{IsPart}
-use Rattle.bf_report_reader.specs.Beginning.{task_with, open_task, tasks_in, task_count_of, closed, last_run, so_far, run_count_of, tells_item, most_told, has_item, takes_at, with_told, untold, is_given_task, is_given_in, is_whole_in, is_whole_at, starts_before, is_text, is_next_in, is_next_id_at, ids_with, is_further, is_further_task, goes_on_in, is_next_instance_at, takes_task, may_take_part_in, put_task, put_open, further, put_further, told, put_part, may_begin_in, with_run, with_task, with_open, with_further, with_part, with_entry}
-use Rattle.bf_report_reader.specs.inner.Beginning.{IsCountedIn, IsCounted, IsSmall}
+use Rattle.bf_report_reader.specs.Beginning.{task_with, open_task, tasks_in, task_count_of, closed, tells_item, most_told, has_item, untold, is_given_task, is_given_in, is_text, is_next_in, is_next_id_at, ids_with, is_further, is_further_task, goes_on_in, is_next_instance_at, put_task, put_open, further, put_further, with_task, with_open, with_further, with_entry}
+use Rattle.bf_report_reader.specs.inner.Beginning.{IsCountedIn, IsCounted, last_run, so_far, run_count_of, takes_at, with_told, is_whole_in, is_whole_at, starts_before, takes_task, may_take_part_in, told, put_part, may_begin_in, with_run, with_part}
 use Rattle.bf_report_reader.specs.Rules.{AreToldPulls, IsShownInstance, IsShownTask, IsShownRun, Rise, IsShownReport}
-use Rattle.bf_report_reader.specs.inner.Rules.{AreShownBefore, IsOpenInstance, IsOpenTask, IsOpenRun, IsRuled}
+use Rattle.bf_report_reader.specs.inner.Rules.{AreShownBefore, IsOpenInstance, IsOpenTask, IsOpenRun, IsRuled, KeepsRules}
 use Rattle.bf_report_reader.proofs.Growth.{if_some, count_is, next_parts, further_parts, begin_parts, whole_parts, not_true, new_parts, pull_parts}
 
 -- ---- lists
@@ -273,18 +273,18 @@ run_ruled b c run none good counted ruled e =
 
 -- ---- the whole
 
-pub report_ruled : (b : ReportSoFar) → IsCounted b → IsSmall b → IsRuled b → is_whole_at b ≡ true → IsShownReport (so_far b)
-report_ruled b counted small ruled all =
+pub report_ruled : (b : ReportSoFar) → KeepsRules b → is_whole_at b ≡ true → IsShownReport (so_far b)
+report_ruled b keeps all =
     let (given, whole) = whole_parts b all in
-    let (shown, known) = go b.run counted ruled given whole in
+    let (shown, known) = go b.run keeps.counted keeps.ruled given whole in
     record {
-      dag_id = ruled.dag_id;
-      ids = ruled.ids;
-      distinct = ruled.distinct;
-      few_tasks = small;
+      dag_id = keeps.ruled.dag_id;
+      ids = keeps.ruled.ids;
+      distinct = keeps.ruled.distinct;
+      few_tasks = keeps.small;
       runs = shown;
-      few_runs = omega (arith, ruled.few_runs, length-append b.runs (last_run b.run));
-      rise = ruled.rise;
+      few_runs = omega (arith, keeps.ruled.few_runs, length-append b.runs (last_run b.run));
+      rise = keeps.ruled.rise;
       known = known;
     }
   where

@@ -11,9 +11,9 @@ use Rattle.bf_report_reader.specs.inner.Entries.{IsEntry, entry_text}
 use Rattle.bf_report_reader.specs.inner.Parts.{IsPart, part_text}
 use Rattle.bf_report_reader.specs.Runs.{IsRunInterval}
 use Rattle.bf_report_reader.specs.inner.Runs.{run_words}
-use Rattle.bf_report_reader.specs.inner.Rules.{IsRuled}
-use Rattle.bf_report_reader.specs.Beginning.{runs_of, run_count_of, last_run, so_far, with_run, with_part, with_entry}
-use Rattle.bf_report_reader.specs.inner.Beginning.{opening_text, IsCounted, IsSmall}
+use Rattle.bf_report_reader.specs.inner.Rules.{KeepsRules}
+use Rattle.bf_report_reader.specs.Beginning.{with_entry}
+use Rattle.bf_report_reader.specs.inner.Beginning.{opening_text, runs_of, run_count_of, last_run, so_far, with_run, with_part}
 use Rattle.bf_report_reader.specs.inner.Extensions.{head_words, start}
 use Rattle.bf_report_reader.specs.inner.Steps.{Follows, IsNext, ReadsOn}
 use Rattle.bf_report_reader.proofs.Growth.{entry_line, entry_grows, run_grows, part_line, part_grows}
@@ -21,53 +21,47 @@ use Rattle.bf_report_reader.proofs.Ruled.{entry_ruled, run_ruled, part_ruled}
 use Rattle.bf_report_reader.proofs.Rooms.{entry_room, run_room, part_room}
 use Rattle.bf_report_reader.proofs.HeldFacts.{consumes_more}
 
-pub entry_next : (b c : ReportSoFar) (id line : List ℕ) (e : Entry) → IsCounted b → IsSmall b → IsRuled b → IsEntry e → line ≡ id ++ 32 ∷ entry_text e → with_entry b id e ≡ Some c → IsNext b line c
-entry_next b c id line e counted small ruled good spelled added =
-    let grows = entry_grows b c id e counted added in
-    let (few, less) = entry_room b c id e counted small good added in
+pub entry_next : (b c : ReportSoFar) (id line : List ℕ) (e : Entry) → KeepsRules b → IsEntry e → line ≡ id ++ 32 ∷ entry_text e → with_entry b id e ≡ Some c → IsNext b line c
+entry_next b c id line e keeps good spelled added =
+    let grows = entry_grows b c id e keeps.counted added in
+    let (few, less) = entry_room b c id e keeps.counted keeps.small good added in
     let same : entry_line id e ≡ line ++ 10 ∷ [] = ap (λ l. l ++ 10 ∷ []) (sym spelled) in
     record {
-      counted = grows.counted;
-      small = few;
-      ruled = entry_ruled b c id e good ruled added;
+      kept = record { counted = grows.counted; small = few; ruled = entry_ruled b c id e good keeps.ruled added };
       shrinks = less;
       follows = inl (record { id = id; entry = e; good = good; spelled = spelled; added = added });
       read = grows.read ∙ ap (λ l. opening_text (so_far b) ++ l) same;
     }
 
-pub run_next : (b c : ReportSoFar) (line : List ℕ) (run : RunReport) → run.tasks ≡ [] → IsRunInterval run.interval → IsCounted b → IsSmall b → IsRuled b → line ≡ codes "@run" ++ 32 ∷ run_words (run.interval, run.state)
+pub run_next : (b c : ReportSoFar) (line : List ℕ) (run : RunReport) → run.tasks ≡ [] → IsRunInterval run.interval → KeepsRules b → line ≡ codes "@run" ++ 32 ∷ run_words (run.interval, run.state)
     → with_run b run ≡ Some c → IsNext b line c
-run_next b c line run bare good counted small ruled spelled added =
-    let grows = run_grows b c run bare counted added in
-    let (few, less) = run_room b c run bare small added in
+run_next b c line run bare good keeps spelled added =
+    let grows = run_grows b c run bare keeps.counted added in
+    let (few, less) = run_room b c run bare keeps.small added in
     let same : run_line run ≡ line ++ 10 ∷ [] = ap (λ l. l ++ 10 ∷ []) (sym spelled) in
     record {
-      counted = grows.counted;
-      small = few;
-      ruled = run_ruled b c run bare good counted ruled added;
+      kept = record { counted = grows.counted; small = few; ruled = run_ruled b c run bare good keeps.counted keeps.ruled added };
       shrinks = less;
       follows = inr (inl (record { run = run; bare = bare; good = good; spelled = spelled; added = added }));
       read = grows.read ∙ ap (λ l. opening_text (so_far b) ++ l) same;
     }
 
-pub part_next : (b c : ReportSoFar) (line : List ℕ) (part : GivenPart) → IsCounted b → IsSmall b → IsRuled b → IsPart part → line ≡ part_text part → with_part b part ≡ Some c → IsNext b line c
-part_next b c line part counted small ruled good spelled added =
-    let grows = part_grows b c part counted ruled added in
-    let (few, less) = part_room b c part small added in
+pub part_next : (b c : ReportSoFar) (line : List ℕ) (part : GivenPart) → KeepsRules b → IsPart part → line ≡ part_text part → with_part b part ≡ Some c → IsNext b line c
+part_next b c line part keeps good spelled added =
+    let grows = part_grows b c part keeps.counted keeps.ruled added in
+    let (few, less) = part_room b c part keeps.small added in
     let same : part_line part ≡ line ++ 10 ∷ [] = ap (λ l. l ++ 10 ∷ []) (sym spelled) in
     record {
-      counted = grows.counted;
-      small = few;
-      ruled = part_ruled b c part good ruled added;
+      kept = record { counted = grows.counted; small = few; ruled = part_ruled b c part good keeps.ruled added };
       shrinks = less;
       follows = inr (inr (record { part = part; good = good; spelled = spelled; added = added }));
       read = grows.read ∙ ap (λ l. opening_text (so_far b) ++ l) same;
     }
 
-pub follows_next : (b c : ReportSoFar) (line : List ℕ) → IsCounted b → IsSmall b → IsRuled b → Follows b line c → IsNext b line c
-follows_next b c line counted small ruled (inl one) = entry_next b c one.id line one.entry counted small ruled one.good one.spelled one.added
-follows_next b c line counted small ruled (inr (inl one)) = run_next b c line one.run one.bare one.good counted small ruled one.spelled one.added
-follows_next b c line counted small ruled (inr (inr one)) = part_next b c line one.part counted small ruled one.good one.spelled one.added
+pub follows_next : (b c : ReportSoFar) (line : List ℕ) → KeepsRules b → Follows b line c → IsNext b line c
+follows_next b c line keeps (inl one) = entry_next b c one.id line one.entry keeps one.good one.spelled one.added
+follows_next b c line keeps (inr (inl one)) = run_next b c line one.run one.bare one.good keeps one.spelled one.added
+follows_next b c line keeps (inr (inr one)) = part_next b c line one.part keeps one.good one.spelled one.added
 
 pub counted_runs : (b : ReportSoFar) → length (runs_of b) ≡ run_count_of b
 counted_runs b = length-append b.runs (last_run b.run)

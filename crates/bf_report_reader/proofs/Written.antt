@@ -194,7 +194,7 @@ task_read_back dag sound named runs s is few fit k t l m =
     let result = result_of dag ledger k t in
     let value = out dag ledger k in
     let ps : List ℕ = (task_of dag t).pulls in
-    let fits_in : (u : ℕ) → u < length dag.tasks → FitsValue dag u (value u) = λ u below. out_fits dag runs s is few fit k u l below in
+    let fits_in : (u : ℕ) → u < length dag.tasks → FitsValue dag u (value u) = λ u below. out_fits dag sound runs s is few fit k u l below in
     let cell : cell_at s k t ≡ final_cell (decided dag ledger k t) result = is.cells k t l m in
     let F : Cell → Type 0 = λ c. HasFitting dag t c in
     read_back_decided dag t result (decided dag ledger k t) (pull_each dag value ps) (pulls_shown dag named value fits_in ps (sound.few_pulls t) (sound.distinct_pulls t) (pulls_in_range dag sound t))

@@ -1,19 +1,16 @@
 -- A report as far as it was read, and what may stand next.
-use Rattle.std.specs.Prelude.{ℕ, zero, suc, ◌+◌, ◌==◌, ◌&&◌, ◌||◌, nat_lt, not, if◌then◌else◌, Bool, true, false, List, [], ◌∷◌, ◌++◌, length, Option, Some, None, is_some, option_map, slice_get, int_lt}
+use Rattle.std.specs.Prelude.{ℕ, zero, suc, ◌+◌, ◌==◌, ◌&&◌, ◌||◌, nat_lt, not, if◌then◌else◌, Bool, true, false, List, [], ◌∷◌, ◌++◌, length, Option, Some, None, is_some, option_map, slice_get}
 use Rattle.std.specs.List.{list_any}
 use Rattle.std.specs.Str.{bytes_eq}
 use Rattle.bf_plan.specs.Ids.{is_id_in}
-use Rattle.bf_interval.specs.declared.interval.Interval.{Interval}
 use Rattle.bf_value.specs.declared.xval.Xval.{Xval}
 use Rattle.bf_xcom.specs.declared.values.TaskResult.{TaskResult}
 use Rattle.bf_report.specs.declared.report.Version.{Version}
 use Rattle.bf_report.specs.declared.report.InstanceReport.{InstanceReport}
 use Rattle.bf_report.specs.declared.report.TaskReport.{TaskReport}
 use Rattle.bf_report.specs.declared.report.RunReport.{RunReport}
-use Rattle.bf_report.specs.declared.report.Report.{Report}
 use Rattle.bf_report_reader.specs.declared.entry.Untried.{Untried}
 use Rattle.bf_report_reader.specs.declared.entry.Entry.{Entry}
-use Rattle.bf_report_reader.specs.declared.part.GivenPart.{GivenPart}
 use Rattle.bf_report_reader.specs.Open.{OpenTask}
 use Rattle.bf_report_reader.specs.declared.open.OpenRun.{OpenRun}
 use Rattle.bf_report_reader.specs.declared.beginning.ReportSoFar.{ReportSoFar}
@@ -44,23 +41,6 @@ task_count_of open_run = length open_run.run.tasks + open_count open_run.task
 abbrev pub closed : OpenRun → RunReport
 closed open_run = record open_run.run { tasks = tasks_in open_run }
 
-abbrev pub last_run : Option OpenRun → List RunReport
-last_run None = []
-last_run (Some open_run) = closed open_run ∷ []
-
-abbrev pub runs_of : ReportSoFar → List RunReport
-runs_of beginning = beginning.runs ++ last_run beginning.run
-
--- the report of all lines read so far
-abbrev pub so_far : ReportSoFar → Report
-so_far beginning =
-    record {
-      version = beginning.version;
-      dag_id = beginning.dag_id;
-      tasks = beginning.tasks;
-      runs = runs_of beginning;
-    }
-
 -- ---- what an instance was given
 
 -- an item stands only in version 2, and there behind each instance of an expanded task
@@ -80,26 +60,11 @@ has_item is_told item = is_some item || not is_told
 abbrev pub lacks_no_item : Version → OpenTask → Bool
 lacks_no_item version task = has_item (tells_item version (is_some task.before)) task.instance.item
 
--- an item where one is lacking, or a pull behind it, which is none of those before
-abbrev pub takes_at : Version → Bool → InstanceReport → GivenPart → Bool
-takes_at version complete instance (GivenPart.Item item) = not complete
-takes_at version complete instance (GivenPart.Pull pull) =
-    (complete && nat_lt (length instance.pulls) (most_told version))
-    && not (list_any (λ earlier. bytes_eq earlier.task pull.task) instance.pulls)
-
--- the instance with a further part of what it was given
-abbrev pub with_told : InstanceReport → GivenPart → InstanceReport
-with_told instance (GivenPart.Item item) = record instance { item = Some item }
-with_told instance (GivenPart.Pull pull) = record instance { pulls = instance.pulls ++ pull ∷ [] }
-
 -- an instance of which its own line was read
 abbrev pub untold : TaskResult → InstanceReport
 untold result = record { result = result; item = None; pulls = [] }
 
 -- ---- what may stand next
-
-abbrev pub run_count_of : ReportSoFar → ℕ
-run_count_of beginning = length beginning.runs + length (last_run beginning.run)
 
 -- the instance that was read last has its item, where one is told
 abbrev pub is_given_task : Version → Option OpenTask → Bool
@@ -112,26 +77,6 @@ is_given_in version (Some open_run) = is_given_task version open_run.task
 
 abbrev pub has_its_item_at : ReportSoFar → Bool
 has_its_item_at beginning = is_given_in beginning.version beginning.run
-
--- each run has all tasks
-abbrev pub is_whole_in : Option OpenRun → List (List ℕ) → Bool
-is_whole_in None tasks = true
-is_whole_in (Some open_run) tasks = task_count_of open_run == length tasks
-
--- the report may end here, or a new run begin
-abbrev pub is_whole_at : ReportSoFar → Bool
-is_whole_at beginning = has_its_item_at beginning && is_whole_in beginning.run beginning.tasks
-
-abbrev pub starts_before : Option OpenRun → Interval → Bool
-starts_before None interval = true
-starts_before (Some open_run) interval =
-    int_lt open_run.run.interval.start.nanosecond interval.start.nanosecond
-
--- a run with this data interval
-abbrev pub may_begin_in : ReportSoFar → Interval → Bool
-may_begin_in beginning interval =
-    (is_whole_at beginning && nat_lt (run_count_of beginning) 4_096)
-    && starts_before beginning.run interval
 
 -- the task of that number has this id
 abbrev pub is_text : Option (List ℕ) → List ℕ → Bool
@@ -187,16 +132,6 @@ abbrev pub opened_by : Bool → TaskResult → OpenTask
 opened_by false result = record { before = None; instance = untold result }
 opened_by true result = record { before = Some []; instance = untold result }
 
--- a part of what the instance that was read last was given
-abbrev pub takes_task : Version → Option OpenTask → GivenPart → Bool
-takes_task version None part = false
-takes_task version (Some task) part =
-    takes_at version (lacks_no_item version task) task.instance part
-
-abbrev pub may_take_part_in : Version → Option OpenRun → GivenPart → Bool
-may_take_part_in version None part = false
-may_take_part_in version (Some open_run) part = takes_task version open_run.task part
-
 -- ---- what is read then
 
 abbrev pub put_task : Option OpenRun → TaskReport → Option OpenRun
@@ -223,22 +158,6 @@ put_further None result = None
 put_further (Some open_run) result =
     Some (record open_run { task = option_map (λ task. further task result) open_run.task })
 
-abbrev pub told : OpenTask → GivenPart → OpenTask
-told task part = record task { instance = with_told task.instance part }
-
-abbrev pub put_part : Option OpenRun → GivenPart → Option OpenRun
-put_part None part = None
-put_part (Some open_run) part =
-    Some (record open_run { task = option_map (λ task. told task part) open_run.task })
-
-abbrev pub with_run : ReportSoFar → RunReport → Option ReportSoFar
-with_run beginning run =
-    if may_begin_in beginning run.interval
-    then Some (record beginning {
-      runs = runs_of beginning;
-      run = Some (record { run = run; task = None });
-    }) else None
-
 abbrev pub with_task : ReportSoFar → List ℕ → TaskReport → Option ReportSoFar
 with_task beginning id task =
     if is_next_id_at beginning id then Some
@@ -259,12 +178,6 @@ abbrev pub with_further : ReportSoFar → List ℕ → ℕ → TaskResult → Op
 with_further beginning id index result =
     if is_next_instance_at beginning id index
     then Some (record beginning { run = put_further beginning.run result }) else None
-
--- what a line tells of what the last instance was given
-abbrev pub with_part : ReportSoFar → GivenPart → Option ReportSoFar
-with_part beginning part =
-    if may_take_part_in beginning.version beginning.run part
-    then Some (record beginning { run = put_part beginning.run part }) else None
 
 -- what a line says of a task
 unfoldable pub with_entry : ReportSoFar → List ℕ → Entry → Option ReportSoFar

@@ -1,4 +1,3 @@
-pub mod Held
 pub mod Entries
 pub mod Parts
 pub mod Runs

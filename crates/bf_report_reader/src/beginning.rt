@@ -1,6 +1,7 @@
 //! A report as far as it was read.
 ghost use Rattle.std.specs.Prelude.{◌≡◌, ◌++◌, [], if◌then◌else◌, true, false, IfOk, OnOk, Some, None};
-ghost use Rattle.bf_report_reader.specs.Beginning.{so_far, last_run, never_report, opened_by, run_count_of, has_its_item_at, is_whole_in, is_whole_at, may_begin_in, with_run, is_new_id_in, is_next_id_at, ids_with, with_task, with_open, is_next_instance_at, with_further, may_take_part_in, with_part, with_entry};
+ghost use Rattle.bf_report_reader.specs.Beginning.{never_report, opened_by, has_its_item_at, is_new_id_in, is_next_id_at, ids_with, with_task, with_open, is_next_instance_at, with_further, with_entry};
+ghost use Rattle.bf_report_reader.specs.inner.Beginning.{so_far, last_run, run_count_of, is_whole_in, is_whole_at, may_begin_in, with_run, may_take_part_in, with_part};
 
 use crate::entry::{Entry, Untried};
 use crate::ids::TaskIds;
@@ -27,17 +28,17 @@ fn add_closed(runs: &mut Sequence<RunReport>, run: Option<OpenRun>) -> Result<()
 /// A report as far as it was read. Its first run gives the ids of the tasks, which are the same in all runs.
 #[derive(Drop)]
 pub(crate) struct ReportSoFar {
-    pub version: Version,
-    pub dag_id: Text,
-    pub tasks: TaskIds,
+    pub(crate) version: Version,
+    pub(crate) dag_id: Text,
+    pub(crate) tasks: TaskIds,
     /// The runs before the one whose tasks are read.
-    pub runs: Sequence<RunReport>,
-    pub run: Option<OpenRun>,
+    pub(crate) runs: Sequence<RunReport>,
+    pub(crate) run: Option<OpenRun>,
 }
 
 impl ReportSoFar {
     /// Makes the report of which only the head line was read: it has no run yet.
-    pub fn new(alloc: Global, version: Version, dag_id: Text) -> ReportSoFar
+    pub(crate) fn new(alloc: Global, version: Version, dag_id: Text) -> ReportSoFar
         ensures { result ≡ record {
           version = version;
           dag_id = dag_id;
@@ -56,7 +57,7 @@ impl ReportSoFar {
     }
 
     /// Counts the runs read so far, with the one whose tasks are being read.
-    pub fn run_count(&self) -> usize
+    pub(crate) fn run_count(&self) -> usize
         ensures { result ≡ run_count_of self.now }
     {
         // a slice has so few items that one more can be counted
@@ -89,7 +90,7 @@ impl ReportSoFar {
 
     /// Answers whether the report may end here, or a new run begin: the last run has all tasks, and its last instance
     /// the item that it needs. True before the first run.
-    pub fn is_whole(&self) -> bool
+    pub(crate) fn is_whole(&self) -> bool
         ensures { result ≡ is_whole_at self.now }
     {
         self.has_needed_item() && self.has_all_tasks()
@@ -111,7 +112,7 @@ impl ReportSoFar {
 
     /// Adds a run that has no tasks yet, and answers true; false, with nothing added, where it may not come next
     /// (`may_begin`).
-    pub fn add_run(&mut self, run: RunReport) -> Result<bool, OutOfMemory>
+    pub(crate) fn add_run(&mut self, run: RunReport) -> Result<bool, OutOfMemory>
         requires { run.tasks ≡ [] }
         ensures added { IfOk result (λ taken.
             with_run self.old run ≡ (if taken then Some self.new else None)) }
@@ -201,7 +202,8 @@ impl ReportSoFar {
         is_expanded: bool,
         first: TaskResult,
     ) -> Result<bool, OutOfMemory>
-        ensures added { IfOk result (λ taken. with_open self.old id.now (opened_by is_expanded first)
+        ensures added { IfOk result (λ taken.
+            with_open self.old id.now (opened_by is_expanded first)
             ≡ (if taken then Some self.new else None)) }
         ensures refused { IfOk result (λ taken. taken ≡ false → self.new ≡ self.old) }
     {
@@ -254,7 +256,12 @@ impl ReportSoFar {
     /// Adds what the line of the task `id` says, and answers true; false, with nothing added, where that line may not
     /// come next.
     #[tactic(auto, unfolding(crate::specs::Beginning::with_entry))]
-    pub fn add_entry(&mut self, alloc: Global, id: &[u8], entry: Entry) -> Result<bool, OutOfMemory>
+    pub(crate) fn add_entry(
+        &mut self,
+        alloc: Global,
+        id: &[u8],
+        entry: Entry,
+    ) -> Result<bool, OutOfMemory>
         ensures added { IfOk result (λ taken.
             with_entry self.old id.now entry ≡ (if taken then Some self.new else None)) }
         ensures refused { IfOk result (λ taken. taken ≡ false → self.new ≡ self.old) }
@@ -279,7 +286,7 @@ impl ReportSoFar {
 
     /// Adds an item or a pull to the instance read last, and answers true; false, with nothing added, where it may not
     /// come next (`may_take_part`).
-    pub fn add_part(&mut self, alloc: Global, part: GivenPart) -> Result<bool, OutOfMemory>
+    pub(crate) fn add_part(&mut self, alloc: Global, part: GivenPart) -> Result<bool, OutOfMemory>
         ensures added { IfOk result (λ taken.
             with_part self.old part ≡ (if taken then Some self.new else None)) }
         ensures refused { IfOk result (λ taken. taken ≡ false → self.new ≡ self.old) }
@@ -295,7 +302,7 @@ impl ReportSoFar {
 
     /// Turns what was read into the report, with the run read last as its last run. The report is as whole as what was
     /// read: nothing is checked here.
-    pub fn into_report(self, alloc: Global) -> Result<Report, OutOfMemory>
+    pub(crate) fn into_report(self, alloc: Global) -> Result<Report, OutOfMemory>
         ensures { IfOk result (λ report. report ≡ so_far self) }
     {
         let ReportSoFar {

@@ -24,7 +24,7 @@ pub(crate) enum Untried {
 
 impl Untried {
     /// Gives the report of a task that has no try for this reason.
-    pub fn report(self) -> TaskReport
+    pub(crate) fn report(self) -> TaskReport
         ensures { result ≡ never_report self }
     {
         match self {

@@ -26,12 +26,12 @@ pub(crate) fn line_feed_in(bytes: &[u8]) -> Option<usize>
 /// `line_end`), and how often reads were interrupted.
 #[derive(Drop)]
 pub(crate) struct ReadBuffer {
-    pub room: Vec<u8>,
-    pub start: usize,
-    pub end: usize,
-    pub line_start: usize,
-    pub line_end: usize,
-    pub interruptions: u32,
+    pub(crate) room: Vec<u8>,
+    pub(crate) start: usize,
+    pub(crate) end: usize,
+    pub(crate) line_start: usize,
+    pub(crate) line_end: usize,
+    pub(crate) interruptions: u32,
     ghost in_order: { start ≤ end },
     ghost within: { end ≤ length room.items },
     ghost line_in_order: { line_start ≤ line_end },
@@ -41,10 +41,10 @@ pub(crate) struct ReadBuffer {
 }
 
 impl ReadBuffer {
-    ghost use Rattle.bf_report_reader.specs.Held.{held_bytes, held_line, ahead, Tallies, Breaks, TakesLine, KeepsAll};
+    ghost use Rattle.bf_report_reader.specs.inner.Held.{held_bytes, held_line, ahead, Tallies, Breaks, TakesLine, KeepsAll};
 
     /// Makes an empty buffer, which has counted no interruption.
-    pub fn new(alloc: Global) -> Result<ReadBuffer, OutOfMemory>
+    pub(crate) fn new(alloc: Global) -> Result<ReadBuffer, OutOfMemory>
         ensures { IfOk result (λ held. (held_bytes held ≡ []) × (held.interruptions ≡ 0)) }
     {
         Ok(ReadBuffer {
@@ -58,8 +58,8 @@ impl ReadBuffer {
     }
 
     /// Reads from the device into the empty buffer, over the line that `line` gives, and answers whether bytes came;
-    /// false at the device's end. Repeats interrupted reads. `Halted` where a read fails, or at the 1,001st interruption since the buffer was
-    /// made.
+    /// false at the device's end. Repeats interrupted reads. `Halted` where a read fails, or at the 1,001st
+    /// interruption since the buffer was made.
     fn fill<R: Read>(&mut self, device: &mut R) -> Result<bool, Halted>
         requires { self.old.start ≡ self.old.end }
         ensures bytes { OnOk result
@@ -93,8 +93,9 @@ impl ReadBuffer {
     }
 
     /// Answers whether bytes are left to take, and reads from the device first where the buffer is empty, over the line
-    /// that `line` gives. False at the device's end. `Halted` where a read fails, or at the 1,001st interruption since the buffer was made.
-    pub fn has_more<R: Read>(&mut self, device: &mut R) -> Result<bool, Halted>
+    /// that `line` gives. False at the device's end. `Halted` where a read fails, or at the 1,001st interruption since
+    /// the buffer was made.
+    pub(crate) fn has_more<R: Read>(&mut self, device: &mut R) -> Result<bool, Halted>
         ensures same { OnOk result (Consumes (ahead self.old (R.left device.old))
             (ahead self.new (R.left device.new)) []) }
         ensures more { IfOk result (λ more. IsTrue more ↔ (0 < length (held_bytes self.new))) }
@@ -114,14 +115,14 @@ impl ReadBuffer {
     }
 
     /// Gives the bytes that were read and not taken yet.
-    pub fn bytes(&self) -> &[u8]
+    pub(crate) fn bytes(&self) -> &[u8]
         ensures { result.now ≡ held_bytes self.now }
     {
         &self.room[self.start..self.end]
     }
 
     /// Drops the first `count` bytes of those not taken yet.
-    pub fn skip(&mut self, count: usize)
+    pub(crate) fn skip(&mut self, count: usize)
         requires { count ≤ length (held_bytes self.old) }
         ensures bytes { held_bytes self.new ≡ drop count (held_bytes self.old) }
         ensures same { self.new.interruptions ≡ self.old.interruptions }
@@ -131,7 +132,7 @@ impl ReadBuffer {
 
     /// Takes the next line with its line feed, which `line` then gives, and answers true; false, with nothing taken,
     /// where the buffer doesn't hold all of the line, or the line is longer than `LONGEST_LINE`.
-    pub fn take_line(&mut self) -> bool
+    pub(crate) fn take_line(&mut self) -> bool
         ensures { MatchBool result (TakesLine self.old self.new) (KeepsAll self.old self.new) }
     {
         match line_feed_in(self.bytes()) {
@@ -146,7 +147,7 @@ impl ReadBuffer {
     }
 
     /// Gives the line taken last, without its line feed, until bytes are read again; empty before the first.
-    pub fn line(&self) -> &[u8]
+    pub(crate) fn line(&self) -> &[u8]
         ensures { result.now ≡ held_line self.now }
     {
         &self.room[self.line_start..self.line_end]

@@ -25,8 +25,8 @@ impl Model for TaskIds {
 }
 
 impl TaskIds {
-    /// A list without ids.
-    pub fn new(alloc: Global) -> TaskIds
+    /// Makes a list without ids.
+    pub(crate) fn new(alloc: Global) -> TaskIds
         ensures { result ≡ [] }
     {
         TaskIds {
@@ -34,22 +34,22 @@ impl TaskIds {
         }
     }
 
-    /// How many ids there are.
-    pub fn len(&self) -> usize
+    /// Counts the ids.
+    pub(crate) fn len(&self) -> usize
         ensures { result ≡ length self.now }
     {
         self.set.len()
     }
 
     /// Answers whether a task has this id.
-    pub fn contains(&self, id: &str) -> bool
+    pub(crate) fn contains(&self, id: &str) -> bool
         ensures { result ≡ list_any (λ task. bytes_eq task id.now) self.now }
     {
         self.set.contains(id)
     }
 
     /// Answers whether the task at this place, from 0, has this id; false where there is no such place.
-    pub fn has_id_at(&self, number: usize, id: &[u8]) -> bool
+    pub(crate) fn has_id_at(&self, number: usize, id: &[u8]) -> bool
         ensures { result ≡ is_text (slice_get self.now number) id.now }
     {
         match self.set.get_index(number) {
@@ -59,7 +59,7 @@ impl TaskIds {
     }
 
     /// Adds an id, which isn't in the list, at its end.
-    pub fn add(&mut self, alloc: Global, id: &str) -> Result<(), OutOfMemory>
+    pub(crate) fn add(&mut self, alloc: Global, id: &str) -> Result<(), OutOfMemory>
         requires { list_any (λ task. bytes_eq task id.now) self.old ≡ false }
         ensures { OnOk result (self.new ≡ self.old ++ id.now ∷ []) }
     {
@@ -68,7 +68,7 @@ impl TaskIds {
     }
 
     /// Turns the ids into texts, in file order.
-    pub fn into_texts(self, alloc: Global) -> Result<Sequence<Text>, OutOfMemory>
+    pub(crate) fn into_texts(self, alloc: Global) -> Result<Sequence<Text>, OutOfMemory>
         ensures { IfOk result (λ texts. texts ≡ self) }
     {
         let TaskIds { set } = self;

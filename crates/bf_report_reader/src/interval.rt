@@ -52,7 +52,7 @@ fn run_state_in(text: &[u8]) -> Option<RunState>
 
 /// Reads the data interval and the state of a run from what follows `@run ` on its line; None where they are malformed,
 /// the start is after the end, or the start isn't in the years of runs.
-pub(crate) fn run_in(text: &[u8]) -> Option<(Interval, RunState)>
+pub(crate) fn interval_and_state_in(text: &[u8]) -> Option<(Interval, RunState)>
     ensures some { IfSome result (Spells IsRunWords run_words text.now) }
     ensures every { Finds (Spells IsRunWords run_words text.now) result }
 {

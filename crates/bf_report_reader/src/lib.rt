@@ -1,7 +1,7 @@
 //! Reports read back from a device.
 //!
-//! `read_report` takes exactly the texts of reports by the rules, as `write_report` of bf_report writes them, one spelling
-//! a report. It looks at the lines in order, and answers the first that may not stand in its place:
+//! `read_report` takes exactly the texts of reports by the rules, as `write_report` of bf_report writes them, one
+//! spelling a report. It looks at the lines in order, and answers the first that may not stand in its place:
 //!
 //! - `held` gives the bytes of a device, over a room that is filled by few reads;
 //! - `line` takes a line off them;

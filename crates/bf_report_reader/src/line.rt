@@ -1,7 +1,6 @@
 //! Lines, taken off a device.
 ghost use Rattle.std.specs.Prelude.{◌≡◌, ◌≤◌, if◌then◌else◌, length, IfOk, OnOk, IfErr};
-ghost use Rattle.bf_report_reader.specs.Held.{held_bytes, ahead, Tallies, Breaks};
-ghost use Rattle.bf_report_reader.specs.inner.Held.{MovesPiece};
+ghost use Rattle.bf_report_reader.specs.inner.Held.{MovesPiece, held_bytes, ahead, Tallies, Breaks};
 ghost use Rattle.bf_report_reader.specs.Faults.{longest_line, IsInLine, IsFromOutside};
 ghost use Rattle.bf_report_reader.specs.inner.Faults.{Came};
 
@@ -61,8 +60,9 @@ fn move_piece(held: &mut ReadBuffer, line: &mut Vec<u8>) -> Result<bool, OutOfMe
     }
 }
 
-/// Reads the next line off the device into `line`, without its line feed, and gives what ended it. `Io` where a read
-/// fails or too many are interrupted, `OutOfMemory` at want of memory.
+/// Reads the next line off the device into `line`, without its line feed, and gives what ended it; of a line that is
+/// too long, `line` gets one byte more than it may have. `Io` where a read fails or too many are interrupted,
+/// `OutOfMemory` at want of memory.
 pub(crate) fn next_line<R: Read>(
     held: &mut ReadBuffer,
     device: &mut R,

@@ -1,32 +1,20 @@
 //! The run whose tasks are read, of which the last may have more lines.
 //!
 //! What hands a task on is inlined, here and in `beginning`: else each call moves it.
-ghost use Rattle.std.specs.Prelude.{◌≡◌, ◌∷◌, ◌++◌, [], ℕ, true, IfOk, OnOk, IfSome, IfNone, Some, None, int_lt};
-ghost use Rattle.std.specs.List.{list_any};
-ghost use Rattle.std.specs.Str.{bytes_eq};
+ghost use Rattle.std.specs.Prelude.{◌≡◌, ◌∷◌, ◌++◌, [], ℕ, true, IfOk, OnOk, OnErr, IfSome, IfNone, Some, None, int_lt};
 ghost use Rattle.bf_report_reader.specs.Parting.{open_by};
 ghost use Rattle.bf_report_reader.specs.inner.Lasts.{told_instances, told_task, further_task, at_last};
-ghost use Rattle.bf_report_reader.specs.Beginning.{never_report, opened_by, task_count_of, closed, most_told, with_told, is_further_task, is_given_task, takes_at, takes_task, put_task, put_open, put_further, put_part};
+ghost use Rattle.bf_report_reader.specs.Beginning.{never_report, opened_by, task_count_of, closed, is_further_task, is_given_task, put_task, put_open, put_further};
+ghost use Rattle.bf_report_reader.specs.inner.Beginning.{with_told, takes_task, put_part};
 
 use crate::entry::Untried;
-use crate::part::GivenPart;
+use crate::part::{GivenPart, instance_may_take};
 use bf_interval::Interval;
-use bf_read::MOST_PULLS;
 use bf_report::{InstanceReport, Pull, RunReport, TaskReport, Version};
 use bf_value::{OutOfMemory, Sequence};
 use bf_xcom::TaskResult;
 use std::alloc::Global;
 use std::marker::Model;
-
-/// Gives the most pulls that a report of this version may have for an instance: none in version 1.
-fn most_pulls(version: Version) -> usize
-    ensures { result ≡ most_told version }
-{
-    match version {
-        Version::One => 0,
-        Version::Two => MOST_PULLS,
-    }
-}
 
 /// Answers whether the last instance of a task has its item. True too where it needs none: the task isn't expanded or
 /// has no instance, or the version has no items.
@@ -39,33 +27,6 @@ fn has_needed_item(version: Version, task: &TaskReport) -> bool
             None => true,
         },
         _ => true,
-    }
-}
-
-/// Answers whether an instance has a pull from the task with this id.
-fn has_pull(instance: &InstanceReport, id: &str) -> bool
-    ensures { result ≡ list_any (λ pull. bytes_eq pull.task id.now) instance.now.pulls }
-{
-    instance.pulls().iter().any(|pull| pull.task.as_str() == id)
-}
-
-/// Answers whether an instance may take this item or pull next. An item only where one is missing (`is_given` is
-/// false); a pull only where none is, the version allows one more, and no pull is from that task yet.
-fn instance_may_take(
-    version: Version,
-    is_given: bool,
-    instance: &InstanceReport,
-    part: &GivenPart,
-) -> bool
-    ensures { result ≡ takes_at version is_given instance.now part.now }
-{
-    match part {
-        GivenPart::Item(_) => !is_given,
-        GivenPart::Pull(pull) => {
-            is_given
-                && instance.pulls().len() < most_pulls(version)
-                && !has_pull(instance, pull.task.as_str())
-        }
     }
 }
 
@@ -101,7 +62,8 @@ fn add_part_to_instance(
     instance: &mut InstanceReport,
     part: GivenPart,
 ) -> Result<(), OutOfMemory>
-    ensures { OnOk result (instance.new ≡ with_told instance.old part) }
+    ensures ok { OnOk result (instance.new ≡ with_told instance.old part) }
+    ensures err { OnErr result (instance.new ≡ instance.old) }
 {
     match part {
         GivenPart::Item(item) => instance.set_item(alloc, item),
@@ -143,7 +105,8 @@ fn add_part_to_last_instance(
     instances: &mut Sequence<InstanceReport>,
     part: GivenPart,
 ) -> Result<(), OutOfMemory>
-    ensures { OnOk result (instances.new ≡ told_instances part instances.old) }
+    ensures ok { OnOk result (instances.new ≡ told_instances part instances.old) }
+    ensures err { OnErr result (instances.new ≡ instances.old) }
 {
     let Some(instance) = instances.items.last_mut() else {
         return Ok(());
@@ -157,7 +120,8 @@ fn add_part_to_task(
     task: &mut TaskReport,
     part: GivenPart,
 ) -> Result<(), OutOfMemory>
-    ensures { OnOk result (task.new ≡ told_task part task.old) }
+    ensures ok { OnOk result (task.new ≡ told_task part task.old) }
+    ensures err { OnErr result (task.new ≡ task.old) }
 {
     match task {
         TaskReport::Ran(instance) => add_part_to_instance(alloc, instance, part),
@@ -175,7 +139,8 @@ fn add_part_to_last_task(
     tasks: &mut Sequence<TaskReport>,
     part: GivenPart,
 ) -> Result<(), OutOfMemory>
-    ensures { OnOk result (tasks.new ≡ at_last (told_task part) tasks.old) }
+    ensures ok { OnOk result (tasks.new ≡ at_last (told_task part) tasks.old) }
+    ensures err { OnErr result (tasks.new ≡ tasks.old) }
 {
     let Some(task) = tasks.items.last_mut() else {
         return Ok(());
@@ -189,7 +154,8 @@ fn add_instance_to_task(
     task: &mut TaskReport,
     ended: TaskResult,
 ) -> Result<(), OutOfMemory>
-    ensures { OnOk result (task.new ≡ further_task ended task.old) }
+    ensures ok { OnOk result (task.new ≡ further_task ended task.old) }
+    ensures err { OnErr result (task.new ≡ task.old) }
 {
     match task {
         TaskReport::Mapped(instances) => instances.push(InstanceReport::new_bare(alloc, ended)?),
@@ -203,7 +169,8 @@ fn add_instance_to_last_task(
     tasks: &mut Sequence<TaskReport>,
     ended: TaskResult,
 ) -> Result<(), OutOfMemory>
-    ensures { OnOk result (tasks.new ≡ at_last (further_task ended) tasks.old) }
+    ensures ok { OnOk result (tasks.new ≡ at_last (further_task ended) tasks.old) }
+    ensures err { OnErr result (tasks.new ≡ tasks.old) }
 {
     let Some(task) = tasks.items.last_mut() else {
         return Ok(());
@@ -213,8 +180,9 @@ fn add_instance_to_last_task(
 
 /// Adds an item or a pull to the last instance of the last task of a run; does nothing where there is none.
 fn add_part_to_run(alloc: Global, run: &mut RunReport, part: GivenPart) -> Result<(), OutOfMemory>
-    ensures { OnOk result (run.new
+    ensures ok { OnOk result (run.new
         ≡ record run.old { tasks = at_last (told_task part) run.old.tasks }) }
+    ensures err { OnErr result (run.new ≡ run.old) }
 {
     add_part_to_last_task(alloc, &mut run.tasks, part)
 }
@@ -225,8 +193,9 @@ fn add_instance_to_run(
     run: &mut RunReport,
     ended: TaskResult,
 ) -> Result<(), OutOfMemory>
-    ensures { OnOk result (run.new
+    ensures ok { OnOk result (run.new
         ≡ record run.old { tasks = at_last (further_task ended) run.old.tasks }) }
+    ensures err { OnErr result (run.new ≡ run.old) }
 {
     add_instance_to_last_task(alloc, &mut run.tasks, ended)
 }
@@ -236,8 +205,7 @@ fn add_instance_to_run(
 fn push_task(run: &mut RunReport, task: TaskReport) -> Result<(), OutOfMemory>
     ensures { OnOk result (run.new ≡ record run.old { tasks = run.old.tasks ++ task ∷ [] }) }
 {
-    run.tasks.push(task)?;
-    Ok(())
+    run.tasks.push(task)
 }
 
 /// Makes the report of a task with its first instance, which ended as `first`; an expanded one may get further
@@ -283,7 +251,7 @@ impl Model for OpenRun {
 
 impl OpenRun {
     /// Makes the run of which only the `@run` line was read.
-    pub fn new(run: RunReport) -> OpenRun
+    pub(crate) fn new(run: RunReport) -> OpenRun
         requires { run.tasks ≡ [] }
         ensures { result ≡ record { run = run; task = None } }
     {
@@ -291,21 +259,21 @@ impl OpenRun {
     }
 
     /// Answers whether this run's data interval starts before that one.
-    pub fn starts_before(&self, interval: Interval) -> bool
+    pub(crate) fn starts_before(&self, interval: Interval) -> bool
         ensures { result ≡ int_lt self.now.run.interval.start.nanosecond interval.start.nanosecond }
     {
         self.run.interval.start < interval.start
     }
 
     /// Counts the tasks read so far.
-    pub fn task_count(&self) -> usize
+    pub(crate) fn task_count(&self) -> usize
         ensures { result ≡ task_count_of self.now }
     {
         self.run.tasks.len()
     }
 
     /// Adds a task without a try, for the reason `untried`, at the end of the run.
-    pub fn add_untried_task(&mut self, untried: Untried) -> Result<(), OutOfMemory>
+    pub(crate) fn add_untried_task(&mut self, untried: Untried) -> Result<(), OutOfMemory>
         ensures { OnOk result (put_task (Some self.old) (never_report untried) ≡ Some self.new) }
     {
         push_task(&mut self.run, untried.report())
@@ -314,7 +282,7 @@ impl OpenRun {
     /// Adds a task with its first instance, which ended as `first`, at the end of the run; an expanded one may get
     /// further instances.
     #[inline(always)]
-    pub fn add_open_task(
+    pub(crate) fn add_open_task(
         &mut self,
         alloc: Global,
         is_expanded: bool,
@@ -335,7 +303,7 @@ impl OpenRun {
     }
 
     /// Answers whether the instance read last has its item. True too where it needs none, or no task was read yet.
-    pub fn has_needed_item(&self, version: Version) -> bool
+    pub(crate) fn has_needed_item(&self, version: Version) -> bool
         ensures { result ≡ is_given_task version self.now.task }
     {
         match self.last() {
@@ -346,7 +314,7 @@ impl OpenRun {
 
     /// Answers whether an instance with this map index may come next for the task read last; false where that isn't
     /// expanded.
-    pub fn is_next_instance(&self, index: u32) -> bool
+    pub(crate) fn is_next_instance(&self, index: u32) -> bool
         ensures { result ≡ is_further_task self.now.task index }
     {
         match self.last() {
@@ -355,16 +323,21 @@ impl OpenRun {
         }
     }
 
-    /// Adds a further instance, which ended as `ended`, to the task read last, which must be expanded.
-    pub fn add_instance(&mut self, alloc: Global, ended: TaskResult) -> Result<(), OutOfMemory>
+    /// Adds an instance, which ended as `ended`, to the task read last, which must be expanded. `Err` changes nothing.
+    pub(crate) fn add_instance(
+        &mut self,
+        alloc: Global,
+        ended: TaskResult,
+    ) -> Result<(), OutOfMemory>
         requires { (index : ℕ) × (is_further_task self.old.task index ≡ true) }
-        ensures { OnOk result (put_further (Some self.old) ended ≡ Some self.new) }
+        ensures ok { OnOk result (put_further (Some self.old) ended ≡ Some self.new) }
+        ensures err { OnErr result (self.new ≡ self.old) }
     {
         add_instance_to_run(alloc, &mut self.run, ended)
     }
 
     /// Answers whether the instance read last may take this item or pull next; false where there is none.
-    pub fn may_take_part(&self, version: Version, part: &GivenPart) -> bool
+    pub(crate) fn may_take_part(&self, version: Version, part: &GivenPart) -> bool
         ensures { result ≡ takes_task version self.now.task part.now }
     {
         match self.last() {
@@ -373,15 +346,16 @@ impl OpenRun {
         }
     }
 
-    /// Adds an item or a pull to the instance read last; does nothing where there is none.
-    pub fn add_part(&mut self, alloc: Global, part: GivenPart) -> Result<(), OutOfMemory>
-        ensures { OnOk result (put_part (Some self.old) part ≡ Some self.new) }
+    /// Adds an item or a pull to the instance read last; does nothing where there is none. `Err` changes nothing.
+    pub(crate) fn add_part(&mut self, alloc: Global, part: GivenPart) -> Result<(), OutOfMemory>
+        ensures ok { OnOk result (put_part (Some self.old) part ≡ Some self.new) }
+        ensures err { OnErr result (self.new ≡ self.old) }
     {
         add_part_to_run(alloc, &mut self.run, part)
     }
 
     /// Gives the run, after its last line.
-    pub fn into_run(self) -> RunReport
+    pub(crate) fn into_run(self) -> RunReport
         ensures { result ≡ closed self }
     {
         let OpenRun { run } = self;

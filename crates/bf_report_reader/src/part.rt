@@ -1,15 +1,20 @@
 //! What the lines behind that of an instance tell of what its tries were given.
 ghost use Rattle.std.specs.Prelude.{◌≡◌, ◌++◌, ◌∷◌, IfOk, IfSome};
+ghost use Rattle.std.specs.List.{list_any};
+ghost use Rattle.std.specs.Str.{bytes_eq};
 ghost use Rattle.bf_value.specs.Json.{json_of};
 ghost use Rattle.bf_report.specs.Report.{pulled_word};
 ghost use Rattle.bf_report_reader.specs.inner.Reads.{Spells, Finds};
+ghost use Rattle.bf_report_reader.specs.Beginning.{most_told};
+ghost use Rattle.bf_report_reader.specs.inner.Beginning.{takes_at};
 ghost use Rattle.bf_report_reader.specs.Parts.{IsToldValue, IsToldItem, IsToldPulled, IsToldPull};
 ghost use Rattle.bf_report_reader.specs.inner.Parts.{pull_words};
 
 use crate::field::split_field;
 use crate::value::value_if_spelled;
 use bf_plan::is_id;
-use bf_report::Pull;
+use bf_read::MOST_PULLS;
+use bf_report::{InstanceReport, Pull, Version};
 use bf_try::{LONGEST_VALUE, MOST_ITEMS};
 use bf_value::{DEEPEST, OutOfMemory, Text, Xval, read_text};
 use bf_xcom::SharedValue;
@@ -99,5 +104,42 @@ pub(crate) fn pull_in(alloc: Global, text: &[u8]) -> Result<Option<Pull>, OutOfM
             value: SharedValue::new(alloc, value)?,
         })),
         None => Ok(None),
+    }
+}
+
+/// Gives the most pulls that a report of this version may have for an instance: none in version 1.
+fn most_pulls(version: Version) -> usize
+    ensures { result ≡ most_told version }
+{
+    match version {
+        Version::One => 0,
+        Version::Two => MOST_PULLS,
+    }
+}
+
+/// Answers whether an instance has a pull from the task with this id.
+fn has_pull(instance: &InstanceReport, id: &str) -> bool
+    ensures { result ≡ list_any (λ pull. bytes_eq pull.task id.now) instance.now.pulls }
+{
+    instance.pulls().iter().any(|pull| pull.task.as_str() == id)
+}
+
+/// Answers whether an instance may take this item or pull next. An item only where one is missing (`is_given` is
+/// false); a pull only where none is, the version allows one more, and no pull is from that task yet.
+pub(crate) fn instance_may_take(
+    version: Version,
+    is_given: bool,
+    instance: &InstanceReport,
+    part: &GivenPart,
+) -> bool
+    ensures { result ≡ takes_at version is_given instance.now part.now }
+{
+    match part {
+        GivenPart::Item(_) => !is_given,
+        GivenPart::Pull(pull) => {
+            is_given
+                && instance.pulls().len() < most_pulls(version)
+                && !has_pull(instance, pull.task.as_str())
+        }
     }
 }

@@ -4,12 +4,11 @@ ghost use Rattle.std.specs.Io.KnownBytes.{Consumes, IsAtEnd};
 ghost use Rattle.bf_device.specs.Device.{HasHalted, HasGoneOn};
 ghost use Rattle.bf_report.specs.Report.{version_word_of, report_text};
 ghost use Rattle.bf_report_reader.specs.inner.Reads.{IsWord, Finds};
-ghost use Rattle.bf_report_reader.specs.Held.{held_bytes, ahead, Tallies, Breaks};
+ghost use Rattle.bf_report_reader.specs.inner.Held.{held_bytes, ahead, Tallies, Breaks};
 ghost use Rattle.bf_report_reader.specs.inner.Lines.{line_in};
-ghost use Rattle.bf_report_reader.specs.Beginning.{so_far};
-ghost use Rattle.bf_report_reader.specs.inner.Beginning.{IsCounted, IsSmall, opening_text};
+ghost use Rattle.bf_report_reader.specs.inner.Beginning.{opening_text, so_far};
 ghost use Rattle.bf_report_reader.specs.Rules.{IsShownReport};
-ghost use Rattle.bf_report_reader.specs.inner.Rules.{IsRuled};
+ghost use Rattle.bf_report_reader.specs.inner.Rules.{IsRuled, KeepsRules};
 ghost use Rattle.bf_report_reader.specs.Faults.{longest_line, IsInLine, Tells, IsReportText, IsFromOutside, lines_in};
 ghost use Rattle.bf_report_reader.specs.inner.Faults.{StopsAt};
 ghost use Rattle.bf_report_reader.specs.inner.Steps.{Steps, EntrySteps, EndsBy, ReadsOn};
@@ -20,7 +19,7 @@ use crate::entry::entry_in;
 use crate::fault::ReportFault;
 use crate::field::{number_in, split_field};
 use crate::held::ReadBuffer;
-use crate::interval::run_in;
+use crate::interval::interval_and_state_in;
 use crate::line::{LineEnd, next_line};
 use crate::part::{GivenPart, item_in, pull_in};
 use bf_device::Read;
@@ -97,7 +96,8 @@ impl Lines {
     }
 }
 
-/// Gives what follows `word` and a space in a text; None where the text doesn't begin with them.
+/// Gives what follows `word` and a space in a text; None where the text doesn't begin with them, and always for a word
+/// that has a space itself.
 fn after_word<'a>(text: &'a [u8], word: &[u8]) -> Option<&'a [u8]>
     ensures some { IfSome result (λ rest. text.now ≡ word.now ++ 32 ∷ rest.now) }
     ensures none { IfNone result (IsWord word.now →
@@ -157,13 +157,11 @@ fn taken_or_refused(taken: bool) -> Step
 
 /// Adds a run from what follows `@run ` on its line; `Refused` where that is malformed, or the run may not come next.
 fn read_run(alloc: Global, beginning: &mut ReportSoFar, text: &[u8]) -> Result<Step, OutOfMemory>
-    requires counted { IsCounted beginning.old }
-    requires small { IsSmall beginning.old }
-    requires ruled { IsRuled beginning.old }
+    requires { KeepsRules beginning.old }
     ensures { IfOk result (λ step.
         Steps step beginning.old (codes "@run" ++ 32 ∷ text.now) beginning.new) }
 {
-    let Some((interval, state)) = run_in(text) else {
+    let Some((interval, state)) = interval_and_state_in(text) else {
         return Ok(Step::Refused);
     };
     let run = RunReport {
@@ -181,9 +179,7 @@ fn read_task(
     id: &[u8],
     text: &[u8],
 ) -> Result<Step, OutOfMemory>
-    requires counted { IsCounted beginning.old }
-    requires small { IsSmall beginning.old }
-    requires ruled { IsRuled beginning.old }
+    requires { KeepsRules beginning.old }
     ensures { IfOk result (λ step. EntrySteps step beginning.old id.now text.now beginning.new) }
 {
     match entry_in(alloc, text)? {
@@ -194,9 +190,7 @@ fn read_task(
 
 /// Adds an item from what follows `@item ` on its line; `Refused` where that is malformed, or may not come next.
 fn read_item(alloc: Global, beginning: &mut ReportSoFar, text: &[u8]) -> Result<Step, OutOfMemory>
-    requires counted { IsCounted beginning.old }
-    requires small { IsSmall beginning.old }
-    requires ruled { IsRuled beginning.old }
+    requires { KeepsRules beginning.old }
     ensures { IfOk result (λ step.
         Steps step beginning.old (codes "@item" ++ 32 ∷ text.now) beginning.new) }
 {
@@ -208,9 +202,7 @@ fn read_item(alloc: Global, beginning: &mut ReportSoFar, text: &[u8]) -> Result<
 
 /// Adds a pull from what follows `@pull ` on its line; `Refused` where that is malformed, or may not come next.
 fn read_pull(alloc: Global, beginning: &mut ReportSoFar, text: &[u8]) -> Result<Step, OutOfMemory>
-    requires counted { IsCounted beginning.old }
-    requires small { IsSmall beginning.old }
-    requires ruled { IsRuled beginning.old }
+    requires { KeepsRules beginning.old }
     ensures { IfOk result (λ step.
         Steps step beginning.old (codes "@pull" ++ 32 ∷ text.now) beginning.new) }
 {
@@ -233,9 +225,7 @@ fn end_or_refused(beginning: &ReportSoFar, text: &[u8]) -> Step
 
 /// Adds what a line after the head says; `Refused` where the line is malformed, or may not come next.
 fn read_line(alloc: Global, beginning: &mut ReportSoFar, line: &[u8]) -> Result<Step, OutOfMemory>
-    requires counted { IsCounted beginning.old }
-    requires small { IsSmall beginning.old }
-    requires ruled { IsRuled beginning.old }
+    requires { KeepsRules beginning.old }
     ensures { IfOk result (λ step. Steps step beginning.old line.now beginning.new) }
 {
     let Some((first, text)) = split_field(line) else {
@@ -263,9 +253,7 @@ fn read_lines<R: Read>(
     device: &mut R,
     beginning: &mut ReportSoFar,
 ) -> Result<(), ReportFault>
-    requires counted { IsCounted beginning.old }
-    requires small { IsSmall beginning.old }
-    requires ruled { IsRuled beginning.old }
+    requires kept { KeepsRules beginning.old }
     requires known { IsKnown beginning.old }
     requires second { lines.old.number ≡ 1 }
     requires place { lines_in (opening_text (so_far beginning.old)) ≡ 1 }
@@ -304,9 +292,7 @@ fn read_head<R: Read>(
     requires first { lines.old.number ≡ 0 }
     ensures ok { IfOk result (λ beginning. ReadsOn (R.left device.old)
         (ahead lines.new.held (R.left device.new)) [] (opening_text (so_far beginning))) }
-    ensures counted { IfOk result IsCounted }
-    ensures small { IfOk result IsSmall }
-    ensures ruled { IfOk result IsRuled }
+    ensures kept { IfOk result KeepsRules }
     ensures known { IfOk result IsKnown }
     ensures place { IfOk result (λ beginning. lines_in (opening_text (so_far beginning)) ≡ 1) }
     ensures number { OnOk result (lines.new.number ≡ 1) }
@@ -333,9 +319,7 @@ fn read_rest<R: Read>(
     device: &mut R,
     beginning: &mut ReportSoFar,
 ) -> Result<(), ReportFault>
-    requires counted { IsCounted beginning.old }
-    requires small { IsSmall beginning.old }
-    requires ruled { IsRuled beginning.old }
+    requires kept { KeepsRules beginning.old }
     requires known { IsKnown beginning.old }
     requires second { lines.old.number ≡ 1 }
     requires place { lines_in (opening_text (so_far beginning.old)) ≡ 1 }

@@ -15,5 +15,5 @@ mod window;
 
 pub use laws::each_root_is_come_to;
 pub use onward::is_tried;
-pub use step::{Began, Root, WalkStep};
+pub use step::{Began, Root};
 pub use walk::roots_of;

@@ -24,8 +24,8 @@ pub struct Root {
 /// A task in a run, by their numbers from 0, that the walk comes to. Where `began` is given the walk ends there; else
 /// it looks at how the task ended.
 #[derive(Clone, Copy, Debug, PartialEq, Eq)]
-pub struct WalkStep {
-    pub run: u32,
-    pub task: u32,
-    pub began: Option<Began>,
+pub(crate) struct WalkStep {
+    pub(crate) run: u32,
+    pub(crate) task: u32,
+    pub(crate) began: Option<Began>,
 }

@@ -1,17 +1,20 @@
 -- Lines of a seeds file, one after another.
-use Rattle.std.proofs.Common.{◌≡◌, ℕ, suc, ◌<◌, ◌+◌, nat_lt, false, List, [], ◌∷◌, ◌++◌, length, get_or, take, drop, Bor, Option, Some, None, MatchOption, IfNone, sym, ap, ◌∙◌, subst, arith}
-use Rattle.std.specs.List.{after_first, before_first, position_or_len}
+use Rattle.std.proofs.Common.{◌≡◌, ℕ, suc, ◌<◌, ◌+◌, nat_lt, false, List, [], ◌∷◌, ◌++◌, length, get_or, take, drop, Bor, Option, Some, None, MatchOption, IfNone, sym, ap, ap₂, ◌∙◌, subst, arith}
+use Rattle.std.specs.List.{after_first, before_first, cons_option, position_or_len}
 use Rattle.std.specs.Option.{option_map}
 use Rattle.std.proofs.Math.Seq.{drop-cons}
 use Rattle.std.proofs.lemmas.Bool.{lt-ltb}
 use Rattle.std.proofs.lemmas.List.{take_more, take-append-drop}
+use Rattle.std.proofs.lemmas.List.Elements.{filter_map-append}
 use Rattle.bf_interval.specs.declared.interval.Interval.{Interval}
 use Rattle.bf_plan.specs.declared.plan.Dag.{Dag}
+use Rattle.bf_dependents.specs.declared.place.Place.{Place}
 use Rattle.bf_dependents.specs.declared.seeds.Seed.{Seed}
+use Rattle.bf_dependents.specs.Seeds.{place_in, places_in}
 use Rattle.bf_seeds.specs.declared.fault.SeedsFault.{SeedsFault}
 use Rattle.bf_seeds.specs.declared.fault.SeedsFault.TheVariants.{BadFile, BadSeed, Unknown, OutOfMemory}
-use Rattle.bf_seeds.specs.Seeds.{split_at_space_of, is_space, parts, AreSeeds, IsEarliest, IsFaultOfLine, IsFirstFault, IsSeedOf, SpellsSeed}
-use Rattle.bf_seeds.specs.inner.Seeds.{IsFaultOfSeed}
+use Rattle.bf_seeds.specs.Seeds.{split_at_space_of, is_space, parts, ArePlaces, AreSeeds, IsEarliest, IsFaultOfLine, IsFirstFault, IsSeedOf}
+use Rattle.bf_seeds.specs.inner.Seeds.{IsPlaceOf}
 
 not_below : (n : ℕ) → nat_lt n n ≡ false
 not_below n = grind arith
@@ -30,21 +33,28 @@ module _ (dag : Dag) (intervals : List Interval) where
   snoc (l ∷ lines) [] line seed are is = absurd are
   snoc (l ∷ lines) (s ∷ seeds) line seed are is = (are.0, snoc lines seeds line seed are.1 is)
 
+  behind : (seeds : List Seed) (seed : Seed) (places : List Place) (place : Place) → place_in dag intervals seed ≡ Some place → places ≡ places_in dag intervals seeds → places ++ place ∷ [] ≡ places_in dag intervals (seeds ++ seed ∷ [])
+  behind seeds seed places place gives so_far = sym (filter_map-append (place_in dag intervals) seeds (seed ∷ []) ∙ ap₂ (λ zs o. zs ++ cons_option o []) (sym so_far) gives)
+
   -- one line more
-  pub one_line : (lines : List (List ℕ)) (i : ℕ) (seeds : List Seed) (seed : Seed) → i < length lines → AreSeeds dag intervals (take i lines) seeds → IsSeedOf dag intervals (get_or lines i []) seed →
-      AreSeeds dag intervals (take (i + 1) lines) (seeds ++ seed ∷ [])
-  one_line lines i seeds seed l are is = subst (λ (ls : List (List ℕ)). AreSeeds dag intervals ls (seeds ++ seed ∷ [])) (sym (take_more lines i [] l)) (snoc (take i lines) seeds (get_or lines i []) seed are is)
+  pub one_line : (lines : List (List ℕ)) (i : ℕ) (places : List Place) (place : Place) → i < length lines → ArePlaces dag intervals (take i lines) places → IsPlaceOf dag intervals (get_or lines i []) place →
+      ArePlaces dag intervals (take (i + 1) lines) (places ++ place ∷ [])
+  one_line lines i places place l are is = (
+    are.0 ++ is.0 ∷ [],
+    subst (λ (ls : List (List ℕ)). AreSeeds dag intervals ls (are.0 ++ is.0 ∷ [])) (sym (take_more lines i [] l)) (snoc (take i lines) are.0 (get_or lines i []) is.0 are.1 is.1),
+    behind are.0 is.0 places place is.2 are.2,
+  )
 
   -- the line at which reading ends
-  pub earliest : (lines : List (List ℕ)) (i : ℕ) (seeds : List Seed) (fault : SeedsFault) → i < length lines → AreSeeds dag intervals (take i lines) seeds → IsFaultOfLine dag intervals (get_or lines i []) fault →
+  pub earliest : (lines : List (List ℕ)) (i : ℕ) (places : List Place) (fault : SeedsFault) → i < length lines → ArePlaces dag intervals (take i lines) places → IsFaultOfLine dag intervals (get_or lines i []) fault →
       IsFirstFault dag intervals lines fault
-  earliest lines i seeds fault l are is = go fault is
+  earliest lines i places fault l are is = go fault is
     where
       split : lines ≡ take i lines ++ get_or lines i [] ∷ drop (suc i) lines
       split = sym (take-append-drop i lines) ∙ ap (λ xs. take i lines ++ xs) (drop-cons lines i [] l)
 
       at : (f : SeedsFault) → IsFaultOfLine dag intervals (get_or lines i []) f → IsEarliest dag intervals lines f
-      at f h = record { before = take i lines; line = get_or lines i []; behind = drop (suc i) lines; parts = split; seeds = seeds; known = are; is_fault = h }
+      at f h = record { before = take i lines; line = get_or lines i []; behind = drop (suc i) lines; parts = split; seeds = are.0; known = are.1; is_fault = h }
 
       go : (f : SeedsFault) → IsFaultOfLine dag intervals (get_or lines i []) f → IsFirstFault dag intervals lines f
       go BadFile h = absurd h
@@ -55,10 +65,3 @@ module _ (dag : Dag) (intervals : List Interval) where
 pub if_none : {A P : Type 0} (o : Option A) → P → IfNone o P
 if_none None p = p
 if_none (Some x) p = tt
-
--- why a seed is refused is why its line is
-pub fault_of_line : (dag : Dag) (intervals : List Interval) (line : List ℕ) (seed : Seed) (fault : SeedsFault) → SpellsSeed line seed → IsFaultOfSeed dag intervals seed fault → IsFaultOfLine dag intervals line fault
-fault_of_line dag intervals line seed BadFile spells is = absurd is
-fault_of_line dag intervals line seed (BadSeed bad) spells is = absurd is
-fault_of_line dag intervals line seed (Unknown why) spells is = (seed, spells, is)
-fault_of_line dag intervals line seed OutOfMemory spells is = absurd is

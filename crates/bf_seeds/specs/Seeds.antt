@@ -6,9 +6,10 @@ use Rattle.jiff.specs.declared.timestamp.Timestamp.{Timestamp}
 use Rattle.bf_interval.specs.declared.interval.Interval.{Interval}
 use Rattle.bf_moment.specs.Moment.{Spells, nearest}
 use Rattle.bf_plan.specs.declared.plan.Dag.{Dag}
+use Rattle.bf_dependents.specs.declared.place.Place.{Place}
 use Rattle.bf_dependents.specs.declared.seeds.Seed.{Seed}
 use Rattle.bf_dependents.specs.Faults as clearing
-use Rattle.bf_dependents.specs.Seeds.{seed_fault}
+use Rattle.bf_dependents.specs.Seeds.{places_in, seed_fault}
 use Rattle.bf_seeds.specs.declared.fault.SeedsFault.{SeedsFault}
 use Rattle.bf_seeds.specs.declared.fault.SeedsFault.TheVariants.{BadFile, BadSeed, Unknown, OutOfMemory}
 
@@ -86,6 +87,12 @@ AreSeeds dag intervals (line ∷ lines) (seed ∷ seeds) =
     IsSeedOf dag intervals line seed × AreSeeds dag intervals lines seeds
 AreSeeds dag intervals _ _ = ⊥
 
+-- the seeds of the lines name these places, in order
+abbrev pub ArePlaces : Dag → List Interval → List (List ℕ) → List Place → Type 0
+ArePlaces dag intervals lines places =
+    (seeds : List Seed) × AreSeeds dag intervals lines seeds
+    × (places ≡ places_in dag intervals seeds)
+
 -- why a line is refused: it is of no seed, and else its seed is
 abbrev pub IsFaultOfLine : Dag → List Interval → List ℕ → SeedsFault → Type 0
 IsFaultOfLine dag intervals line BadFile = ⊥
@@ -117,10 +124,10 @@ IsFirstFault dag intervals lines fault = IsEarliest dag intervals lines fault
 abbrev pub IsSeedsText : List ℕ → Type 0
 IsSeedsText bytes = (length bytes ≤ 8_388_608) × IsUtf8 bytes
 
--- the bytes say these seeds, line by line
-abbrev pub AreSeedsOfFile : Dag → List Interval → List ℕ → List Seed → Type 0
-AreSeedsOfFile dag intervals bytes seeds =
-    IsSeedsText bytes × AreSeeds dag intervals (lines_in bytes) seeds
+-- the lines of the bytes name these places, in order
+abbrev pub ArePlacesOfFile : Dag → List Interval → List ℕ → List Place → Type 0
+ArePlacesOfFile dag intervals bytes places =
+    IsSeedsText bytes × ArePlaces dag intervals (lines_in bytes) places
 
 -- why the bytes are refused: as a whole, or for their first line that is of no seed that is known
 abbrev pub IsFaultOfFile : Dag → List Interval → List ℕ → SeedsFault → Type 0

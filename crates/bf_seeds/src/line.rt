@@ -11,9 +11,9 @@ use jiff::Timestamp;
 /// What a line of a seeds file says: the start of a run, the id of a task, and a map index, None for all instances.
 #[derive(Clone, Copy)]
 pub(crate) struct Words<'a> {
-    pub run: Timestamp,
-    pub task: &'a str,
-    pub index: Option<i32>,
+    pub(crate) run: Timestamp,
+    pub(crate) task: &'a str,
+    pub(crate) index: Option<i32>,
 }
 
 /// What stands before the first space of a text and what stands after it; None where it has no space.

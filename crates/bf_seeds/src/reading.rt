@@ -1,18 +1,16 @@
 //! Seeds files.
-ghost use Rattle.std.specs.Prelude.{◌≡◌, ◌⊎◌, ◌∷◌, ◌++◌, [], map, None, IfOk, IfErr, OnErr, OnOk};
-ghost use Rattle.bf_dependents.specs.Seeds.{seed_fault};
+ghost use Rattle.std.specs.Prelude.{◌≡◌, ◌⊎◌, ◌≤◌, ◌∷◌, ◌++◌, [], length, map, IfOk, IfErr, OnErr, OnOk};
 ghost use Rattle.bf_seeds.specs.declared.fault.SeedsFault.TheVariants;
-ghost use Rattle.bf_seeds.specs.Seeds.{AreSeeds, IsFaultOfLine, IsFirstFault, IsSeedOf, lines_in};
-ghost use Rattle.bf_seeds.specs.inner.Seeds.{IsFaultOfSeed};
+ghost use Rattle.bf_seeds.specs.Seeds.{ArePlaces, IsFaultOfLine, IsFirstFault, lines_in};
+ghost use Rattle.bf_seeds.specs.inner.Seeds.{IsPlaceOf};
 
 use crate::fault::SeedsFault;
 use crate::line::words_in;
-use bf_dependents::{Seed, refuse_seeds};
+use bf_dependents::{Place, Seed, place_of};
 use bf_interval::Interval;
 use bf_plan::Plan;
 use bf_value::{OutOfMemory, Text};
 use std::alloc::{AllocError, Global};
-use std::slice;
 
 /// The lines of a text that aren't empty, without their ends.
 fn lines_of(alloc: Global, text: &str) -> Result<Vec<&str>, AllocError>
@@ -31,27 +29,16 @@ fn bad_seed(alloc: Global, line: &str) -> SeedsFault
     }
 }
 
-/// Refuses a seed with `Unknown` where the plan lacks its task, or its run is the start of none of these data
-/// intervals.
-fn refuse_unknown(plan: &Plan, intervals: &[Interval], seed: &Seed) -> Result<(), SeedsFault>
-    ensures ok { OnOk result (seed_fault plan.now.dag intervals.now (seed.now ∷ []) ≡ None) }
-    ensures err { IfErr result (IsFaultOfSeed plan.now.dag intervals.now seed.now) }
-{
-    match refuse_seeds(plan, intervals, slice::from_ref(seed)) {
-        Ok(()) => Ok(()),
-        Err(fault) => Err(SeedsFault::Unknown(fault)),
-    }
-}
-
-/// The seed that a line names. `BadSeed` where the line has another form, `Unknown` where the plan lacks its task or
+/// The place that a line names. `BadSeed` where the line has another form, `Unknown` where the plan lacks its task or
 /// its run is the start of no data interval, `OutOfMemory` where memory ran out.
-fn seed_in_line(
+fn place_in_line(
     alloc: Global,
     plan: &Plan,
     intervals: &[Interval],
     line: &str,
-) -> Result<Seed, SeedsFault>
-    ensures ok { IfOk result (IsSeedOf plan.now.dag intervals.now line.now) }
+) -> Result<Place, SeedsFault>
+    requires few { length intervals.now ≤ 4_096 }
+    ensures ok { IfOk result (IsPlaceOf plan.now.dag intervals.now line.now) }
     ensures err { IfErr result (IsFaultOfLine plan.now.dag intervals.now line.now) }
 {
     let Some(words) = words_in(line) else {
@@ -63,59 +50,61 @@ fn seed_in_line(
         run: words.run,
         index: words.index,
     };
-    match refuse_unknown(plan, intervals, &seed) {
-        Ok(()) => Ok(seed),
-        Err(fault) => Err(fault),
+    match place_of(plan, intervals, &seed) {
+        Ok(place) => Ok(place),
+        Err(fault) => Err(SeedsFault::Unknown(fault)),
     }
 }
 
-/// Adds a seed at the end of `seeds`; `Err` changes nothing.
-fn add_seed(seeds: &mut Vec<Seed>, seed: Seed) -> Result<(), OutOfMemory>
-    ensures ok { OnOk result (seeds.new.items ≡ seeds.old.items ++ seed ∷ []) }
-    ensures err { OnErr result (seeds.new.items ≡ seeds.old.items) }
+/// Adds a place at the end of `places`; `Err` changes nothing.
+fn add_place(places: &mut Vec<Place>, place: Place) -> Result<(), OutOfMemory>
+    ensures ok { OnOk result (places.new.items ≡ places.old.items ++ place ∷ []) }
+    ensures err { OnErr result (places.new.items ≡ places.old.items) }
 {
-    seeds.push(seed)?;
+    places.push(place)?;
     Ok(())
 }
 
-/// The seeds that these lines name, in order. For the first bad line `BadSeed` where it has another form, or `Unknown`
+/// The places that these lines name, in order. For the first bad line `BadSeed` where it has another form, or `Unknown`
 /// where the plan lacks its task or its run is the start of no data interval; `OutOfMemory` where memory ran out.
-fn seeds_of(
+fn places_of_lines(
     alloc: Global,
     plan: &Plan,
     intervals: &[Interval],
     lines: &[&str],
-) -> Result<Vec<Seed>, SeedsFault>
-    ensures ok { IfOk result (λ seeds. AreSeeds plan.now.dag intervals.now
-        (map (λ line. line.now) lines.now) seeds.items) }
+) -> Result<Vec<Place>, SeedsFault>
+    requires few { length intervals.now ≤ 4_096 }
+    ensures ok { IfOk result (λ places. ArePlaces plan.now.dag intervals.now
+        (map (λ line. line.now) lines.now) places.items) }
     ensures err { IfErr result (IsFirstFault plan.now.dag intervals.now
         (map (λ line. line.now) lines.now)) }
 {
-    let mut seeds = Vec::new(alloc);
+    let mut places = Vec::new(alloc);
     for line in lines {
-        match seed_in_line(alloc, plan, intervals, line) {
-            Ok(seed) => add_seed(&mut seeds, seed)?,
+        match place_in_line(alloc, plan, intervals, line) {
+            Ok(place) => add_place(&mut places, place)?,
             Err(fault) => return Err(fault),
         }
     }
-    Ok(seeds)
+    Ok(places)
 }
 
-/// The seeds that the lines of a text name, in order; empty lines are skipped. For the first bad line `BadSeed` where
+/// The places that the lines of a text name, in order; empty lines are skipped. For the first bad line `BadSeed` where
 /// it has another form, or `Unknown` where the plan lacks its task or its run is the start of no data interval;
 /// `OutOfMemory` where memory ran out.
-pub fn seeds_in(
+pub fn places_in_text(
     alloc: Global,
     plan: &Plan,
     intervals: &[Interval],
     text: &str,
-) -> Result<Vec<Seed>, SeedsFault>
-    ensures ok { IfOk result (λ seeds. AreSeeds plan.now.dag intervals.now
-        (lines_in text.now) seeds.items) }
+) -> Result<Vec<Place>, SeedsFault>
+    requires few { length intervals.now ≤ 4_096 }
+    ensures ok { IfOk result (λ places. ArePlaces plan.now.dag intervals.now
+        (lines_in text.now) places.items) }
     ensures err { IfErr result (IsFirstFault plan.now.dag intervals.now (lines_in text.now)) }
 {
     match lines_of(alloc, text) {
-        Ok(lines) => seeds_of(alloc, plan, intervals, lines.as_slice()),
+        Ok(lines) => places_of_lines(alloc, plan, intervals, lines.as_slice()),
         Err(_) => Err(SeedsFault::OutOfMemory),
     }
 }

@@ -112,17 +112,6 @@ fn find_by_index<'a>(
     }
 }
 
-/// The id of a task, empty where there is no such task.
-#[tactic(auto, unfolding(bf_plan::specs::Plans::task_of))]
-fn id_of(plan: &Plan, task: u32) -> &str
-    ensures { result.now ≡ (task_of plan.now.dag task).id }
-{
-    match plan.dag().tasks.get(task as usize) {
-        Some(task) => task.id.as_str(),
-        None => "",
-    }
-}
-
 /// The 20 bytes of the logical date of the run with this number, from 0; None where there is no such run.
 fn date_of(dates: &[[u8; 20]], run: u32) -> Option<[u8; 20]>
     ensures some { IfSome result (λ date. (length date ≡ 20)
@@ -155,7 +144,7 @@ fn entry_in_run<'a>(
     if (name.task as usize) < dag.tasks.len() {
         return find_by_index(entries, index, date, name);
     }
-    find_by_scan(entries, id_of(plan, name.task).as_bytes(), &date, name)
+    find_by_scan(entries, dag.id_of(name.task).as_bytes(), &date, name)
 }
 
 /// The logical dates of runs that start at these moments, each of 20 bytes, as `2024-01-31T06:05:09Z`.
@@ -218,7 +207,12 @@ impl<'a> TableRunner<'a> {
         let entries = self.table.as_slice();
         match date_of(self.dates.as_slice(), name.run) {
             Some(date) => entry_in_run(entries, &self.index, self.plan, date, name),
-            None => find_by_scan(entries, id_of(self.plan, name.task).as_bytes(), &[], name),
+            None => find_by_scan(
+                entries,
+                self.plan.dag().id_of(name.task).as_bytes(),
+                &[],
+                name,
+            ),
         }
     }
 

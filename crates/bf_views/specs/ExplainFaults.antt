@@ -16,7 +16,7 @@ use Rattle.bf_views.specs.Asked.{asked_fault}
 use Rattle.bf_views.specs.Reported.{AreReportedReadable, IsReportedFault, OfReported}
 
 -- the bytes say a graph without a fault and a report, and this is the first fault of what is asked of them
-pub record IsRefusedFor (fault : CommandFault) (start : ℤ) (task : Option TaskAsked)
+pub record IsFirstFaultOfAsked (fault : CommandFault) (start : ℤ) (task : Option TaskAsked)
     (graph : List ℕ) (zone : Option (List ℕ)) (held : List ℕ) : Type 0 where
   pub draft : Draft
   pub graph_says : IsGraph graph zone draft
@@ -27,7 +27,8 @@ pub record IsRefusedFor (fault : CommandFault) (start : ℤ) (task : Option Task
 abbrev pub IsRefusal : Files → ExplainAsked → ℤ → CommandFault → Type 0
 IsRefusal files asked start fault =
     AreReportedReadable files asked.graph (string_bytes asked.report)
-    × OfReported files asked.graph (string_bytes asked.report) (IsRefusedFor fault start asked.task)
+    × OfReported files asked.graph (string_bytes asked.report)
+    (IsFirstFaultOfAsked fault start asked.task)
 
 -- the first fault: of the files and of what they hold, or of what is asked of it
 abbrev pub IsExplainFaultAt : Files → ExplainAsked → ℤ → CommandFault → Type 0

@@ -1,2 +1,1 @@
-mod LookingFacts
 mod SinceFacts

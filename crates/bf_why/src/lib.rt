@@ -20,7 +20,6 @@ mod why;
 
 pub use counted::counts_text;
 pub use foreign::is_foreign;
-pub use looking::{first_pushed_by, id_at};
 pub use states::{States, has_instance_in};
 pub use upstreams::no_status_text;
 pub use why::why_lines;

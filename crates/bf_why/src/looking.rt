@@ -1,24 +1,11 @@
 //! Looking things up by task.
 ghost use Rattle.std.specs.Prelude.{◌≡◌, IfOk, option_copied, slice_get};
-ghost use Rattle.bf_why.specs.Decided.{id_of};
 ghost use Rattle.bf_reason.specs.Settled.{results_of, value_among};
 ghost use Rattle.bf_xcom.specs.Pulls.{only_pushed_value_in};
 
-use bf_plan::Dag;
 use bf_reason::Settled;
 use bf_value::Xval;
 use bf_xcom::TaskResult;
-
-/// The id of task number `task`; empty where the graph has no such task.
-#[tactic(auto, unfolding(bf_plan::specs::Plans::task_of))]
-pub fn id_at(dag: &Dag, task: u32) -> &str
-    ensures { result.now ≡ id_of dag.now task }
-{
-    match dag.tasks.get(task as usize) {
-        Some(task) => task.id.as_str(),
-        None => "",
-    }
-}
 
 /// What the first of these results pushed; None where there is no result or it pushed nothing.
 fn pushed_by_first(results: &[TaskResult]) -> Option<&Xval>
@@ -32,7 +19,7 @@ fn pushed_by_first(results: &[TaskResult]) -> Option<&Xval>
 
 /// What the first instance of task number `task` pushed; None where it pushed nothing, the task didn't run, or
 /// `settled`, the tasks of the run, lacks it.
-pub fn first_pushed_by<'a>(settled: &'a [Settled<'_>], task: u32) -> Option<&'a Xval>
+pub(crate) fn first_pushed_by<'a>(settled: &'a [Settled<'_>], task: u32) -> Option<&'a Xval>
     ensures { option_copied result
         ≡ only_pushed_value_in (results_of (value_among settled.entry.now task)) }
 {

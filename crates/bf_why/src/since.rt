@@ -5,7 +5,6 @@ ghost use Rattle.bf_core.specs.Terms.{task_of};
 ghost use Rattle.bf_why.specs.inner.Grounds.{IsGround};
 ghost use Rattle.bf_why.specs.Since.{because_of_states, name_where, rule_text_of, shared, since, since_text_of, verdict_text_of, with_share};
 
-use crate::looking::id_at;
 use crate::states::States;
 use bf_plan::Dag;
 use bf_reason::{Settled, counts_at};
@@ -156,7 +155,7 @@ fn add_name(
     let counts = counts_at(settled, upstream);
     let count = states.count_in(&counts);
     if count > 0 {
-        let id = id_at(dag, upstream);
+        let id = dag.id_of(upstream);
         names.push(name_of(alloc, id, count, settled.get(upstream as usize))?)?;
     }
     Ok(())

@@ -6,7 +6,6 @@ ghost use Rattle.bf_report.specs.declared.report.TaskReport.{TaskReport};
 ghost use Rattle.bf_why.specs.Decided.{expanded_sentence_of, items_text_of, source_sentences};
 
 use crate::came::came_text;
-use crate::looking::id_at;
 use bf_plan::Plan;
 use bf_reason::{Settled, StateCause, is_expanded};
 use bf_value::{OutOfMemory, Text};
@@ -75,7 +74,7 @@ fn expanded_sentence(
         settled.get(source as usize),
         cause,
     )?;
-    let id = id_at(dag, source);
+    let id = dag.id_of(source);
     Ok(Text::new(format!(in alloc; "It is expanded over {id}{items}")?))
 }
 

@@ -24,7 +24,7 @@ fn count_if(chosen: bool, count: u32) -> u32
 
 impl States {
     /// Just the state success.
-    pub const SUCCESS: States = States {
+    pub(crate) const SUCCESS: States = States {
         success: true,
         failed: false,
         upstream_failed: false,
@@ -48,7 +48,7 @@ impl States {
     };
 
     /// How many of the counted instances, at most 1,024, are in one of these states.
-    pub fn count_in(self, counts: &Counts) -> u32
+    pub(crate) fn count_in(self, counts: &Counts) -> u32
         requires { total_of counts.now ≤ 1_024 }
         ensures { result ≡ count_of self counts.now }
     {

@@ -5,7 +5,7 @@ ghost use Rattle.bf_core.specs.Deciding.{branch_is, is_blocked_in};
 ghost use Rattle.bf_why.specs.Decided.{branch_sentence_of, branch_where, blocked_branches_sentence_of, have_no_status_of, id_of, blocked_upstreams_sentence_of};
 ghost use Rattle.bf_reason.specs.Settled.{value_among};
 
-use crate::looking::{first_pushed_by, id_at};
+use crate::looking::first_pushed_by;
 use bf_plan::Plan;
 use bf_reason::{Settled, is_blocked, is_blocked_branch, is_skipping_branch};
 use bf_value::{OutOfMemory, Text};
@@ -25,7 +25,7 @@ fn branch_sentence(
 ) -> Result<Text, OutOfMemory>
     ensures { IfOk result (λ text. text ≡ branch_sentence_of plan.now.dag settled.now branch) }
 {
-    let id = id_at(plan.dag(), branch);
+    let id = plan.dag().id_of(branch);
     let value = value_text(alloc, first_pushed_by(settled, branch), MOST_CHARACTERS)?;
     let text = format!(in alloc;
         "The branch {id} succeeded and doesn't follow it: it pushed {value}."
@@ -84,7 +84,7 @@ fn add_id_if(
     ensures { OnOk result (ids.new.items ≡ ids.old.items
         ++ (if holds then id_of plan.now.dag task ∷ [] else [])) }
 {
-    add_line_if(alloc, ids, holds, id_at(plan.dag(), task))
+    add_line_if(alloc, ids, holds, plan.dag().id_of(task))
 }
 
 /// Whether `upstream` is a branch without a status; true for a branch that `settled`, the tasks of the run, lacks.

@@ -4,7 +4,7 @@ use Rattle.bf_command_line.specs.declared.forms.ClearAsked.{ClearAsked}
 use Rattle.bf_command_fault.specs.declared.fault.CommandFault.{CommandFault}
 use Rattle.bf_command_fault.specs.declared.fault.CommandFault.TheVariants.{OutOfMemory, CannotLaunch}
 use Rattle.bf_backfills.specs.Commands.{Startable, IsUnlaunchable, launcher_used_of}
-use Rattle.bf_backfills.specs.inner.Named.{IsFaultOfMeaning}
+use Rattle.bf_backfills.specs.inner.Named.{IsFaultOfTextsAsked}
 
 -- ---- why there is no answer
 
@@ -18,4 +18,4 @@ IsFaultOfLauncher startable launcher fault = ⊥
 abbrev pub IsFaultOfAsked : Startable → ClearAsked → CommandFault → Type 0
 IsFaultOfAsked startable asked (CannotLaunch path) =
     IsUnlaunchable startable (launcher_used_of asked.table asked.launcher) path
-IsFaultOfAsked startable asked fault = IsFaultOfMeaning asked.range asked.cleared fault
+IsFaultOfAsked startable asked fault = IsFaultOfTextsAsked asked.range asked.cleared fault

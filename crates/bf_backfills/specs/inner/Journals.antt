@@ -48,22 +48,23 @@ journaled_fault path (Stopped StopFault.CannotRecord) = CannotWriteFile path
 journaled_fault path fault = fault
 
 -- a journal that is asked for can't be opened or written; or the backfill that goes on from what it is told to hold has this fault
-abbrev pub IsFaultOver : Files → JournalAsked → Ledger → Heading → Option (List ℕ) → Dag
-    → List Interval → CommandFault → Type 0
-IsFaultOver journals asked before cleared logs dag found (CannotRead path) =
+abbrev pub IsFaultOfJournaledBackfill : Files → JournalAsked → Ledger → Heading → Option (List ℕ)
+    → Dag → List Interval → CommandFault → Type 0
+IsFaultOfJournaledBackfill journals asked before cleared logs dag found (CannotRead path) =
     IsFaultOfOpening journals asked (CannotRead path)
-IsFaultOver journals asked before cleared logs dag found JournalInUse =
+IsFaultOfJournaledBackfill journals asked before cleared logs dag found JournalInUse =
     IsFaultOfOpening journals asked JournalInUse
-IsFaultOver journals asked before cleared logs dag found (CannotWriteFile path) =
+IsFaultOfJournaledBackfill journals asked before cleared logs dag found (CannotWriteFile path) =
     path ≡ string_bytes asked.path
-IsFaultOver journals asked before cleared logs dag found (BadJournal fault) =
+IsFaultOfJournaledBackfill journals asked before cleared logs dag found (BadJournal fault) =
     OfJournal journals asked (λ held. JournalReportFault asked.stop_after before asked.retry_failed
     held cleared logs dag found (BadJournal fault))
-IsFaultOver journals asked before cleared logs dag found (Stopped StopFault.CannotRecord) = ⊥
-IsFaultOver journals asked before cleared logs dag found (Stopped stop) =
+IsFaultOfJournaledBackfill journals asked before cleared logs dag found (Stopped
+    StopFault.CannotRecord) = ⊥
+IsFaultOfJournaledBackfill journals asked before cleared logs dag found (Stopped stop) =
     OfJournal journals asked (λ held. JournalReportFault asked.stop_after before asked.retry_failed
     held cleared logs dag found (Stopped stop))
-IsFaultOver journals asked before cleared logs dag found fault = IsWanting fault
+IsFaultOfJournaledBackfill journals asked before cleared logs dag found fault = IsWanting fault
 
 -- the report of the backfill that goes on from what the journal is told to hold
 abbrev pub IsReportOver : Files → JournalAsked → Ledger → Heading → (JobName → Given → Raw → Type 0)
@@ -75,20 +76,20 @@ IsReportOver journals asked before cleared may_answer dag found text success =
 -- ---- of `run`
 
 -- the first fault of these bytes; or they have none, and it is that of the journal or of the backfill that goes on from it
-abbrev pub IsFaultOfRecorded : Option (List ℕ) → Files → JournalAsked → RunRange → List ℕ
+abbrev pub IsFaultOfRecordedRun : Option (List ℕ) → Files → JournalAsked → RunRange → List ℕ
     → Option (List ℕ) → CommandFault → Type 0
-IsFaultOfRecorded logs journals asked range graph zone fault = ListFault graph zone range fault
+IsFaultOfRecordedRun logs journals asked range graph zone fault = ListFault graph zone range fault
     ⊎ ((draft : Draft) × (found : List Interval) × IsGraph graph zone draft
     × HasListing graph zone range (Ok found)
-    × IsFaultOver journals asked nothing [] logs (dag_of draft) found fault)
+    × IsFaultOfJournaledBackfill journals asked nothing [] logs (dag_of draft) found fault)
 
 -- the first fault of these bytes and of the backfill; with a journal, that of the recorded one
-abbrev pub IsFaultOfRunBy : LaunchingOf → Losing → Files → Option JournalAsked → RunRange → List ℕ
-    → Option (List ℕ) → CommandFault → Type 0
-IsFaultOfRunBy launching may_lose journals None range graph zone fault =
+abbrev pub IsFaultOfReadRun : LaunchingOf → Losing → Files → Option JournalAsked → RunRange
+    → List ℕ → Option (List ℕ) → CommandFault → Type 0
+IsFaultOfReadRun launching may_lose journals None range graph zone fault =
     RunFault launching may_lose graph zone range fault
-IsFaultOfRunBy launching may_lose journals (Some asked) range graph zone fault =
-    IsFaultOfRecorded launching.logs journals asked range graph zone fault
+IsFaultOfReadRun launching may_lose journals (Some asked) range graph zone fault =
+    IsFaultOfRecordedRun launching.logs journals asked range graph zone fault
 
 -- ---- of `clear`
 
@@ -99,7 +100,7 @@ pub record GoesWrongAfter (logs : Option (List ℕ)) (journals : Files) (dag : D
   pub kept : Ledger
   pub cleared : Heading
   pub cleared_is : IsClearedBy dag found was what kept cleared
-  pub fault_is : IsFaultOver journals asked kept cleared logs dag found fault
+  pub fault_is : IsFaultOfJournaledBackfill journals asked kept cleared logs dag found fault
 
 -- the fault of what is cleared, or else of the backfill that goes on
 abbrev pub IsFaultSince : Option (List ℕ) → Files → Dag → List Interval → Report → ToClear

@@ -36,10 +36,10 @@ IsUnmeant HasNone OutOfMemory = Unit {0}
 IsUnmeant HasNone fault = ⊥
 
 -- the texts mean no range, or one of them no moment; or memory is wanting, and they mean a range
-abbrev pub IsFaultOfMeaning : RangeAsked → ClearedAsked → CommandFault → Type 0
-IsFaultOfMeaning range cleared BadMoment = IsNoStarts range.starts ⊎ HasNoMoment cleared
-IsFaultOfMeaning range cleared OutOfMemory = (meant : RunRange) × MeansRange range meant
-IsFaultOfMeaning range cleared fault = ⊥
+abbrev pub IsFaultOfTextsAsked : RangeAsked → ClearedAsked → CommandFault → Type 0
+IsFaultOfTextsAsked range cleared BadMoment = IsNoStarts range.starts ⊎ HasNoMoment cleared
+IsFaultOfTextsAsked range cleared OutOfMemory = (meant : RunRange) × MeansRange range meant
+IsFaultOfTextsAsked range cleared fault = ⊥
 
 -- ---- and where it was read
 

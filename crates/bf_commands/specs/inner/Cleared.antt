@@ -6,10 +6,7 @@ use Rattle.bf_table.specs.declared.table.TableEntry.{TableEntry}
 use Rattle.bf_try.specs.Tries.{Ledger}
 use Rattle.bf_process.specs.Words.{LaunchingOf}
 use Rattle.bf_kept.specs.Kept.{MayGiveUpAnew}
-use Rattle.bf_dependents.specs.declared.seeds.Seed.{Seed}
-use Rattle.bf_dependents.specs.Seeds.{seed_fault}
 use Rattle.bf_command_fault.specs.declared.fault.CommandFault.{CommandFault}
-use Rattle.bf_command_fault.specs.declared.fault.CommandFault.TheVariants.{Clear as NotCleared, OutOfMemory}
 use Rattle.bf_commands.specs.inner.OverTable.{IsWantingWorkers}
 use Rattle.bf_planning.specs.Tables.{IsTableFault}
 use Rattle.bf_commands.specs.Programs.{Losing, MayGiveUpLaunched}
@@ -32,11 +29,5 @@ IsStopOrWantingFrom alone kept launching may_lose None dag intervals fault =
     IsStopOrWantingAnew kept launching may_lose dag intervals fault
 
 -- the fault is that of the table's bytes, where there are some
-abbrev pub IsFaultOfNamed : Option (List ℕ) → CommandFault → Type 0
-IsFaultOfNamed table fault = (bytes : List ℕ) × (table ≡ Some bytes) × IsTableFault bytes fault
-
--- the first task of the seeds that is unknown, and else a run, is the fault; or memory is wanting
-abbrev pub IsUnknownNamed : Dag → List Interval → List Seed → CommandFault → Type 0
-IsUnknownNamed dag intervals seeds (NotCleared fault) = seed_fault dag intervals seeds ≡ Some fault
-IsUnknownNamed dag intervals seeds OutOfMemory = Unit {0}
-IsUnknownNamed dag intervals seeds fault = ⊥
+abbrev pub IsFaultOfTable : Option (List ℕ) → CommandFault → Type 0
+IsFaultOfTable table fault = (bytes : List ℕ) × (table ≡ Some bytes) × IsTableFault bytes fault

@@ -19,12 +19,12 @@ IsStopOfOrWanting may_give_up logs dag intervals (Stopped stop) =
     IsStopOf may_give_up logs dag intervals stop
 IsStopOfOrWanting may_give_up logs dag intervals fault = IsWanting fault
 
--- the try is told as given up: its task, its index and its number; or memory is wanting
-abbrev pub IsLost : Dag → JobName → CommandFault → Type 0
-IsLost dag name (Stopped (StopFault.GaveUp task index attempt)) =
+-- why this try has no answer is told: it was given up, by its task, its index and its number; or memory is wanting
+abbrev pub IsUnanswered : Dag → JobName → CommandFault → Type 0
+IsUnanswered dag name (Stopped (StopFault.GaveUp task index attempt)) =
     (task ≡ (task_of dag name.task).id) × (index ≡ name.index) × (attempt ≡ name.attempt)
-IsLost dag name OutOfMemory = Unit {0}
-IsLost dag name fault = ⊥
+IsUnanswered dag name OutOfMemory = Unit {0}
+IsUnanswered dag name fault = ⊥
 
 -- the log of this try is told; or memory is wanting
 abbrev pub IsUnlogged : Option (List ℕ) → Dag → List Interval → JobName → CommandFault → Type 0
@@ -33,18 +33,15 @@ IsUnlogged logs dag intervals name (Stopped (StopFault.CannotLog path)) =
 IsUnlogged logs dag intervals name OutOfMemory = Unit {0}
 IsUnlogged logs dag intervals name fault = ⊥
 
--- this try is told as given up, or its log; or memory is wanting
+-- the log of this try is told; or else why it has no answer
 abbrev pub IsGivenUp : Option (List ℕ) → Dag → List Interval → JobName → CommandFault → Type 0
-IsGivenUp logs dag intervals name (Stopped (StopFault.GaveUp task index attempt)) =
-    (task ≡ (task_of dag name.task).id) × (index ≡ name.index) × (attempt ≡ name.attempt)
 IsGivenUp logs dag intervals name (Stopped (StopFault.CannotLog path)) =
     IsLogOf logs dag intervals name path
-IsGivenUp logs dag intervals name OutOfMemory = Unit {0}
-IsGivenUp logs dag intervals name fault = ⊥
+IsGivenUp logs dag intervals name fault = IsUnanswered dag name fault
 
 -- what is told of what stopped a backfill
-abbrev pub IsToldOf : Option (List ℕ) → Dag → List Interval → BackfillFault → CommandFault → Type 0
-IsToldOf logs dag intervals BackfillFault.OutOfMemory told = told ≡ OutOfMemory
-IsToldOf logs dag intervals BackfillFault.Start told = told ≡ Stopped StopFault.CannotStart
-IsToldOf logs dag intervals (BackfillFault.Runner name) told =
+abbrev pub IsToldOfStop : Option (List ℕ) → Dag → List Interval → BackfillFault → CommandFault → Type 0
+IsToldOfStop logs dag intervals BackfillFault.OutOfMemory told = told ≡ OutOfMemory
+IsToldOfStop logs dag intervals BackfillFault.Start told = told ≡ Stopped StopFault.CannotStart
+IsToldOfStop logs dag intervals (BackfillFault.Runner name) told =
     IsGivenUp logs dag intervals name told

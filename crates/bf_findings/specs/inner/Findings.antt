@@ -4,6 +4,6 @@ use Rattle.bf_findings.specs.declared.refusal.Refusal.{Refusal}
 use Rattle.bf_findings.specs.Findings.{IsAcceptedFile, IsRefusal}
 
 -- why the bytes are refused, or nothing where they are accepted
-abbrev pub IsRefusedFor : List ℕ → Option (List ℕ) → Option Refusal → Type 0
-IsRefusedFor graph file None = IsAcceptedFile graph file
-IsRefusedFor graph file (Some refusal) = IsRefusal graph file refusal
+abbrev pub IsRefusalIfAny : List ℕ → Option (List ℕ) → Option Refusal → Type 0
+IsRefusalIfAny graph file None = IsAcceptedFile graph file
+IsRefusalIfAny graph file (Some refusal) = IsRefusal graph file refusal

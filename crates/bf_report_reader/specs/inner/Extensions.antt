@@ -6,8 +6,7 @@ use Rattle.bf_report.specs.declared.report.Report.{Report}
 use Rattle.bf_report.specs.Report.{version_word_of, report_text}
 use Rattle.bf_report_reader.specs.declared.beginning.ReportSoFar.{ReportSoFar}
 use Rattle.bf_report_reader.specs.Rules.{IsShownReport}
-use Rattle.bf_report_reader.specs.Beginning.{is_whole_at, so_far}
-use Rattle.bf_report_reader.specs.inner.Beginning.{opening_text}
+use Rattle.bf_report_reader.specs.inner.Beginning.{opening_text, is_whole_at, so_far}
 use Rattle.bf_report_reader.specs.inner.Steps.{Follows}
 
 -- the words of a head line

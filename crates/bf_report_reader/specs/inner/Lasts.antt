@@ -5,7 +5,8 @@ use Rattle.bf_report.specs.declared.report.InstanceReport.{InstanceReport}
 use Rattle.bf_report.specs.declared.report.TaskReport.{TaskReport}
 use Rattle.bf_report_reader.specs.declared.part.GivenPart.{GivenPart}
 use Rattle.bf_report_reader.specs.Parting.{parted}
-use Rattle.bf_report_reader.specs.Beginning.{with_told, untold}
+use Rattle.bf_report_reader.specs.Beginning.{untold}
+use Rattle.bf_report_reader.specs.inner.Beginning.{with_told}
 
 -- the last of these is another
 abbrev pub put_last : {X : Type 0} → (X → X) → Option (List X × X) → List X

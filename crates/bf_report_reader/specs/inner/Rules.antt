@@ -10,7 +10,8 @@ use Rattle.bf_report_reader.specs.declared.open.OpenRun.{OpenRun}
 use Rattle.bf_report_reader.specs.declared.beginning.ReportSoFar.{ReportSoFar}
 use Rattle.bf_report_reader.specs.Entries.{IsShownResult}
 use Rattle.bf_report_reader.specs.Runs.{IsRunInterval}
-use Rattle.bf_report_reader.specs.Beginning.{runs_of, run_count_of, tells_item, has_item}
+use Rattle.bf_report_reader.specs.Beginning.{tells_item, has_item}
+use Rattle.bf_report_reader.specs.inner.Beginning.{IsCounted, IsSmall, runs_of, run_count_of}
 use Rattle.bf_report_reader.specs.Rules.{MayHaveItem, AreToldPulls, IsShownInstance, IsShownTask, IsShownRun, Rise}
 
 -- ---- as far as it was read
@@ -49,3 +50,9 @@ pub record IsRuled (beginning : ReportSoFar) : Type 0 where
   pub last : IsOpenRun beginning.version beginning.run
   pub few_runs : run_count_of beginning ≤ 4_096
   pub rise : Rise (runs_of beginning)
+
+-- what holds of a report behind each of its lines
+pub record KeepsRules (beginning : ReportSoFar) : Type 0 where
+  pub counted : IsCounted beginning
+  pub small : IsSmall beginning
+  pub ruled : IsRuled beginning

@@ -10,9 +10,9 @@ use Rattle.bf_report_reader.specs.inner.Entries.{IsEntry, entry_text}
 use Rattle.bf_report_reader.specs.inner.Parts.{IsPart, part_text}
 use Rattle.bf_report_reader.specs.Runs.{IsRunInterval}
 use Rattle.bf_report_reader.specs.inner.Runs.{run_words}
-use Rattle.bf_report_reader.specs.inner.Rules.{IsRuled}
-use Rattle.bf_report_reader.specs.Beginning.{is_whole_at, so_far, runs_of, with_entry, with_run, with_part}
-use Rattle.bf_report_reader.specs.inner.Beginning.{IsCounted, IsSmall, room, opening_text}
+use Rattle.bf_report_reader.specs.inner.Rules.{KeepsRules}
+use Rattle.bf_report_reader.specs.Beginning.{with_entry}
+use Rattle.bf_report_reader.specs.inner.Beginning.{room, opening_text, is_whole_at, so_far, runs_of, with_run, with_part}
 
 -- the line is that of a task which may stand next, and the other is the report with it
 pub record AddsEntry (old : ReportSoFar) (text : List ℕ) (new : ReportSoFar) : Type 0 where
@@ -53,9 +53,7 @@ MayStand beginning text = ((new : ReportSoFar) × Follows beginning text new) �
 
 -- the report has grown by the line
 pub record IsNext (old : ReportSoFar) (text : List ℕ) (new : ReportSoFar) : Type 0 where
-  pub counted : IsCounted new
-  pub small : IsSmall new
-  pub ruled : IsRuled new
+  pub kept : KeepsRules new
   pub shrinks : room new < room old
   pub follows : Follows old text new
   pub read : opening_text (so_far new) ≡ opening_text (so_far old) ++ (text ++ 10 ∷ [])

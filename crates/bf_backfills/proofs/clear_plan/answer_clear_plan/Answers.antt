@@ -2,7 +2,7 @@ use Rattle.bf_command_fault.proofs.Leaving.{leaves_due}
 use Rattle.bf_command_fault.specs.declared.status.Status.{Status}
 use Rattle.bf_commands.proofs.Faults.{unwritten_leaves}
 use Rattle.bf_backfills.specs.Commands.{plan_input}
-use Rattle.bf_backfills.specs.inner.Named.{IsFaultOfMeaning}
+use Rattle.bf_backfills.specs.inner.Named.{IsFaultOfTextsAsked}
 use Rattle.bf_backfills.proofs.ClearInputs.{named_readable, named_reading, read_means, reading_leaves}
 use Rattle.bf_backfills.proofs.ClearEnds.{of_planning, plan_answer, plan_fault, plan_unmeant}
 use Rattle.bf_backfills.proofs.Exits.{fails}
@@ -11,7 +11,7 @@ use Rattle.bf_backfills.proofs.clear_plan.answer_clear_plan.Goals as goal
 pub returns-in_err-meant : goal.returns-in_err-meant
 returns-in_err-meant g c =
     fails _ _ _ _ _ c.from_residual.ensures.1 (plan_unmeant (g.S.Source.file c.args.files.now) c.args.asked _ c.in_err-meant.ensures.fault)
-    (unwritten_leaves _ _ _ (IsFaultOfMeaning c.args.asked.range c.args.asked.cleared) (λ n written. written) _ c.in_err-meant.ensures.fault)
+    (unwritten_leaves _ _ _ (IsFaultOfTextsAsked c.args.asked.range c.args.asked.cleared) (λ n written. written) _ c.in_err-meant.ensures.fault)
 
 pub returns-in_err-ready : goal.returns-in_err-ready
 returns-in_err-ready g c =

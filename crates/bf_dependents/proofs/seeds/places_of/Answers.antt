@@ -1,17 +1,28 @@
-use Rattle.std.proofs.Common.{sym, ap, ◌∙◌}
-use Rattle.bf_mapped.proofs.FilterLemmas.{one_more, none_more}
+use Rattle.std.proofs.Common.{Some, None, if◌then◌else◌, true≢false, sym, ap, ◌∙◌}
+use Rattle.bf_mapped.proofs.FilterLemmas.{one_more}
+use Rattle.bf_dependents.specs.declared.fault.ClearFault.TheVariants.{UnknownRun}
 use Rattle.bf_dependents.specs.Seeds.{place_in}
+use Rattle.bf_dependents.proofs.SeedFaults.{one_known, one_unknown_run}
 use Rattle.bf_dependents.proofs.seeds.places_of.Goals as goal
-use Rattle.bf_dependents.proofs.seeds.places_of.Goals.{in-Some+in_ok-push, in_default}
+use Rattle.bf_dependents.proofs.seeds.places_of.Goals.{in-Ok+in_ok-add_place-in-Ok, in-Err-UnknownRun}
 
 pub loop-seed-preserved : goal.loop-seed-preserved
 loop-seed-preserved c =
-    let f = place_in c.args.plan.now.dag c.args.intervals.now in
+    let dag = c.args.plan.now.dag in
+    let intervals = c.args.intervals.now in
+    let seeds = c.args.seeds.now in
+    let i = c.loop-seed.seed-index in
+    let seed = c.seed-item.result in
+    let within = c.loop-seed-test.true in
     elim c.match-place_of.branch [
-      | in-Some+in_ok-push w ↦
-          ap (λ v. v.items) w.places-is ∙ w.in_ok-push.ensures.items
-          ∙ one_more f c.args.seeds.now c.loop-seed.seed-index c.seed-item.result _ _ c.loop-seed-test.true c.seed-item.is (sym c.place_of.ensures ∙ w.in-Some.is) c.loop-seed.invariant
-      | in_default w ↦
-          ap (λ v. v.items) w.places-is
-          ∙ none_more f c.args.seeds.now c.loop-seed.seed-index c.seed-item.result _ c.loop-seed-test.true c.seed-item.is (sym c.place_of.ensures ∙ w.in_default.is) c.loop-seed.invariant
+      | in-Ok+in_ok-add_place-in-Ok w ↦ (
+        one_known dag intervals seeds i seed within c.seed-item.is w.in-Ok.ensures.known ∙ c.loop-seed.invariant.0 ∙ ap (λ b. if b then Some UnknownRun else None) (sym w.is_run_unknown-is),
+        λ known. ap (λ v. v.items) w.places-is ∙ w.in_ok-add_place-in-Ok.ensures.ok
+            ∙ one_more (place_in dag intervals) seeds i seed _ _ within c.seed-item.is w.in-Ok.ensures.ok (c.loop-seed.invariant.1 (sym w.is_run_unknown-is ∙ known)),
+      )
+      | in-Err-UnknownRun w ↦ (
+        one_unknown_run dag intervals seeds i seed within c.seed-item.is c.loop-seed.is_run_unknown c.loop-seed.invariant.0 (w.in-Err-UnknownRun.ensures.err ∙ ap Some w.in-Err-UnknownRun.field-0-is)
+            ∙ ap (λ b. if b then Some UnknownRun else None) (sym w.is_run_unknown-is),
+        λ known. absurd (true≢false (sym w.is_run_unknown-is ∙ known)),
+      )
     ]

@@ -1,7 +1,6 @@
 use Rattle.std.proofs.Common.{◌≡◌, ◌≤◌, ◌<◌, ◌+◌, ◌∙◌, length, take, drop, true, false, sym, ap, subst, arith}
 use Rattle.bf_report_reader.specs.Faults.{longest_line}
-use Rattle.bf_report_reader.specs.Held.{held_bytes}
-use Rattle.bf_report_reader.specs.inner.Held.{MovesPiece}
+use Rattle.bf_report_reader.specs.inner.Held.{MovesPiece, held_bytes}
 use Rattle.bf_report_reader.proofs.Pieces.{moves_to_end, moves_on}
 use Rattle.bf_report_reader.proofs.line.move_piece.Goals as goal
 

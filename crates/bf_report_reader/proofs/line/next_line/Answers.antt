@@ -1,4 +1,4 @@
-use Rattle.bf_report_reader.specs.Held.{held_bytes}
+use Rattle.bf_report_reader.specs.inner.Held.{held_bytes}
 use Rattle.bf_report_reader.proofs.Pieces.{came_on, came_to_end}
 use Rattle.bf_report_reader.proofs.line.next_line.Goals as goal
 

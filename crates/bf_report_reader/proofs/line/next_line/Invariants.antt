@@ -1,7 +1,7 @@
 use Rattle.std.proofs.Common.{◌-◌, ◌≤◌, ◌+◌, length}
 use Rattle.std.specs.Io.KnownBytes.{Consumes}
 use Rattle.bf_report_reader.specs.Faults.{IsInLine, longest_line}
-use Rattle.bf_report_reader.specs.Held.{ahead, Tallies}
+use Rattle.bf_report_reader.specs.inner.Held.{ahead, Tallies}
 use Rattle.bf_report_reader.proofs.line.next_line.Given as goal
 
 abbrev pub invariant-loop-held : goal.invariant-loop-held

@@ -1,6 +1,7 @@
 use Rattle.std.proofs.Common.{◌∙◌, sym, ap}
 use Rattle.bf_report_reader.specs.Parting.{open_by}
-use Rattle.bf_report_reader.specs.Beginning.{is_given_task, takes_at, takes_task}
+use Rattle.bf_report_reader.specs.Beginning.{is_given_task}
+use Rattle.bf_report_reader.specs.inner.Beginning.{takes_at, takes_task}
 use Rattle.bf_report_reader.proofs.PartingFacts.{found_last, mapped_takes}
 use Rattle.bf_report_reader.proofs.open.task_may_take.Goals as goal
 

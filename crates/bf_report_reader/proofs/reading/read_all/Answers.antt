@@ -1,9 +1,8 @@
 use Rattle.std.proofs.Common.{[], arith}
 use Rattle.std.proofs.lemmas.Result.{err_from_is_err_and}
 use Rattle.bf_report.specs.Report.{report_text}
-use Rattle.bf_report_reader.specs.Beginning.{so_far}
-use Rattle.bf_report_reader.specs.inner.Beginning.{opening_text}
-use Rattle.bf_report_reader.specs.Held.{IsTallied}
+use Rattle.bf_report_reader.specs.inner.Beginning.{opening_text, so_far}
+use Rattle.bf_report_reader.specs.inner.Held.{IsTallied}
 use Rattle.bf_report_reader.proofs.LineFacts.{tells_on, reads_twice, ends_there}
 use Rattle.bf_report_reader.proofs.reading.read_all.Goals as goal
 

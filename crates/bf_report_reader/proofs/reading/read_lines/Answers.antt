@@ -2,12 +2,11 @@ use Rattle.std.proofs.Common.{◌++◌, ◌∷◌, [], ap, sym, subst, ◌≡◌
 use Rattle.std.proofs.lemmas.Result.{err_from_is_err_and}
 use Rattle.bf_report.specs.Report.{report_text}
 use Rattle.bf_report_reader.specs.declared.beginning.ReportSoFar.{ReportSoFar}
-use Rattle.bf_report_reader.specs.Beginning.{so_far}
-use Rattle.bf_report_reader.specs.inner.Beginning.{opening_text}
+use Rattle.bf_report_reader.specs.inner.Beginning.{opening_text, so_far}
 use Rattle.bf_report_reader.specs.Rules.{IsShownReport}
 use Rattle.bf_report_reader.specs.Faults.{lines_in}
 use Rattle.bf_report_reader.specs.inner.Lines.{line_in}
-use Rattle.bf_report_reader.proofs.Chains.{keeps_next, known_next}
+use Rattle.bf_report_reader.proofs.Chains.{known_next}
 use Rattle.bf_report_reader.proofs.LineFacts.{one_line_more, read_stops, line_tells}
 use Rattle.bf_report_reader.proofs.StepFacts.{reads_more}
 use Rattle.bf_report_reader.proofs.Ruled.{report_ruled}
@@ -17,7 +16,7 @@ pub loop-beginning-preserved : goal.loop-beginning-preserved
 loop-beginning-preserved g c =
     let (keeps, known, reads, tallied, place, number) = c.loop-beginning.invariant in
     let next = rw (c.in-Taken.is, c.line.ensures) at c.in_ok-read_line.ensures in (
-      keeps_next c.loop-beginning.beginning c.read_line.new.beginning (line_in c.read.new.self) next,
+      next.kept,
       known_next c.loop-beginning.beginning c.read_line.new.beginning (line_in c.read.new.self) keeps known next,
       reads_more _ _ _ (opening_text (so_far c.args.beginning.now)) (opening_text (so_far c.loop-beginning.beginning)) (opening_text (so_far c.read_line.new.beginning)) (line_in c.read.new.self ++ 10 ∷ []) reads c.in_ok-read.ensures.line next.read,
       λ base failed t. c.in_ok-read.ensures.tallied base failed (tallied base failed t),
@@ -36,7 +35,7 @@ pub returns-in-End-clause-rules : goal.returns-in-End-clause-rules
 returns-in-End-clause-rules g c =
     let (keeps, known, reads, tallied, place, number) = c.loop-beginning.invariant in
     let ends = rw (c.in-End.is, c.line.ensures) at c.in_ok-read_line.ensures in
-    subst (λ (b : ReportSoFar). IsShownReport (so_far b)) (sym ends.1) (report_ruled c.loop-beginning.beginning keeps.counted keeps.small keeps.ruled ends.0.1)
+    subst (λ (b : ReportSoFar). IsShownReport (so_far b)) (sym ends.1) (report_ruled c.loop-beginning.beginning keeps ends.0.1)
 
 pub returns-in_err-read-clause-tells : goal.returns-in_err-read-clause-tells
 returns-in_err-read-clause-tells g c =

@@ -1,8 +1,7 @@
 use Rattle.std.proofs.Common.{◌+◌, [], ap, sym, append-nil}
 use Rattle.bf_report.specs.Report.{report_text}
-use Rattle.bf_report_reader.specs.Beginning.{so_far}
-use Rattle.bf_report_reader.specs.inner.Beginning.{opening_text}
-use Rattle.bf_report_reader.specs.Held.{held_bytes, ahead}
+use Rattle.bf_report_reader.specs.inner.Beginning.{opening_text, so_far}
+use Rattle.bf_report_reader.specs.inner.Held.{held_bytes, ahead}
 use Rattle.bf_report_reader.proofs.LineFacts.{more_tells}
 use Rattle.bf_report_reader.proofs.StepFacts.{reads_more}
 use Rattle.bf_report_reader.proofs.reading.read_rest.Goals as goal

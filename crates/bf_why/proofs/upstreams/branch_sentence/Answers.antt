@@ -5,6 +5,6 @@ use Rattle.bf_why.proofs.upstreams.branch_sentence.Goals as goal
 
 pub returns : goal.returns
 returns c =
-    let id = c.id_at-id.ensures ∙ ap (λ dag. id_of dag c.args.branch) c.dag.ensures.dag in
+    let id = c.id_of-id.ensures ∙ ap (λ dag. id_of dag c.args.branch) c.dag.ensures.dag in
     let value = c.in_ok-value.ensures ∙ ap (value_text_of 200) c.first_pushed_by.ensures in
     c.new.ensures ∙ c.in_ok-text.ensures.ok ∙ (λ i. codes "The branch " ++ (id i ++ (codes " succeeded and doesn't follow it: it pushed " ++ (value i ++ codes "."))))

@@ -1,6 +1,6 @@
 use Rattle.std.proofs.Common.{◌≡◌, ◌-◌, []}
 use Rattle.std.specs.Io.KnownBytes.{Consumes}
-use Rattle.bf_report_reader.specs.Held.{Tallies}
+use Rattle.bf_report_reader.specs.inner.Held.{Tallies}
 use Rattle.bf_report_reader.proofs.held.ReadBuffer.fill.Given as goal
 
 abbrev pub invariant-loop-count : goal.invariant-loop-count

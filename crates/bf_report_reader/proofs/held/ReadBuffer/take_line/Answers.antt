@@ -1,6 +1,6 @@
 use Rattle.std.proofs.Common.{◌≡◌, ◌∙◌, ◌+◌, ◌==◌, ◌∷◌, ◌++◌, Some, position, take, drop, refl, sym, ap, ap₂}
 use Rattle.std.proofs.lemmas.List.{drop-drop}
-use Rattle.bf_report_reader.specs.Held.{held_bytes}
+use Rattle.bf_report_reader.specs.inner.Held.{held_bytes}
 use Rattle.bf_report_reader.proofs.Taking.{line_taken, line_held, in_line_before, short_enough}
 use Rattle.bf_report_reader.proofs.held.ReadBuffer.take_line.Goals as goal
 

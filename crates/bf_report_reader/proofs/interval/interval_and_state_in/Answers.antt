@@ -5,8 +5,8 @@ use Rattle.bf_report_reader.proofs.Words.{moment_plain}
 use Rattle.std.proofs.lemmas.Int.{ints}
 use Rattle.bf_interval.specs.Years.{IsInYears}
 use Rattle.bf_report_reader.proofs.Spelled.{run_fields}
-use Rattle.bf_report_reader.proofs.interval.run_in.Goals as goal
-use Rattle.bf_report_reader.proofs.interval.run_in.Goals.{then-gt-via-then-gt, then-gt-via-else-gt+then-not-is_in_years}
+use Rattle.bf_report_reader.proofs.interval.interval_and_state_in.Goals as goal
+use Rattle.bf_report_reader.proofs.interval.interval_and_state_in.Goals.{then-gt-via-then-gt, then-gt-via-else-gt+then-not-is_in_years}
 
 pub returns-in_err-end-clause-every : goal.returns-in_err-end-clause-every
 returns-in_err-end-clause-every c = λ p says.

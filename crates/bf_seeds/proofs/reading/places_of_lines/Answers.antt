@@ -1,9 +1,10 @@
 use Rattle.std.proofs.Common.{◌≡◌, ◌<◌, ◌+◌, ℕ, List, [], Bor, length, get_or, map, take, sym, subst, arith}
 use Rattle.std.proofs.lemmas.List.{get_or-map, length-map}
-use Rattle.bf_dependents.specs.declared.seeds.Seed.{Seed}
-use Rattle.bf_seeds.specs.Seeds.{AreSeeds, IsFaultOfLine, IsSeedOf}
+use Rattle.bf_dependents.specs.declared.place.Place.{Place}
+use Rattle.bf_seeds.specs.Seeds.{ArePlaces, IsFaultOfLine}
+use Rattle.bf_seeds.specs.inner.Seeds.{IsPlaceOf}
 use Rattle.bf_seeds.proofs.Lines.{earliest, one_line}
-use Rattle.bf_seeds.proofs.reading.seeds_of.Goals as goal
+use Rattle.bf_seeds.proofs.reading.places_of_lines.Goals as goal
 
 pub returns-in-Err-clause-err : goal.returns-in-Err-clause-err
 returns-in-Err-clause-err c =
@@ -15,7 +16,7 @@ returns-in-Err-clause-err c =
     let test = c.loop-line-test.true in
     let low : i < length texts = omega (arith, test, length-map all (λ (s : Bor (List ℕ)). s.now)) in
     let here : get_or texts i [] ≡ (get_or all i none).now = get_or-map (λ (s : Bor (List ℕ)). s.now) all i none [] test in
-    earliest dag c.args.intervals.now texts i c.loop-line.seeds.items c.in-Err.fault low c.loop-line.invariant
+    earliest dag c.args.intervals.now texts i c.loop-line.places.items c.in-Err.fault low c.loop-line.invariant
     (subst (λ (t : List ℕ). IsFaultOfLine dag c.args.intervals.now t c.in-Err.fault) (sym here) c.in-Err.ensures.err)
 
 pub loop-line-preserved : goal.loop-line-preserved
@@ -28,6 +29,6 @@ loop-line-preserved c =
     let test = c.loop-line-test.true in
     let low : i < length texts = omega (arith, test, length-map all (λ (s : Bor (List ℕ)). s.now)) in
     let here : get_or texts i [] ≡ (get_or all i none).now = get_or-map (λ (s : Bor (List ℕ)). s.now) all i none [] test in
-    subst (λ (ss : List Seed). AreSeeds dag c.args.intervals.now (take (i + 1) texts) ss) (sym c.in_ok-add_seed-in-Ok.ensures.ok)
-    (one_line dag c.args.intervals.now texts i c.loop-line.seeds.items c.in-Ok.seed low c.loop-line.invariant
-    (subst (λ (t : List ℕ). IsSeedOf dag c.args.intervals.now t c.in-Ok.seed) (sym here) c.in-Ok.ensures.ok))
+    subst (λ (ps : List Place). ArePlaces dag c.args.intervals.now (take (i + 1) texts) ps) (sym c.in_ok-add_place-in-Ok.ensures.ok)
+    (one_line dag c.args.intervals.now texts i c.loop-line.places.items c.in-Ok.place low c.loop-line.invariant
+    (subst (λ (t : List ℕ). IsPlaceOf dag c.args.intervals.now t c.in-Ok.place) (sym here) c.in-Ok.ensures.ok))
