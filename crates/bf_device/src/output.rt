@@ -1,6 +1,7 @@
 //! The device over a writer of std.
-ghost use Rattle.std.specs.Prelude.{◌≡◌};
-ghost use Rattle.bf_device.specs.Output.{interrupted_writes, failed_writes};
+ghost use Rattle.std.specs.Prelude.{◌≡◌, Err};
+ghost use Rattle.bf_device.specs.Device.{interrupted, read_failed, WentOn};
+ghost use Rattle.bf_device.specs.Output.{interrupted_calls, failed_calls};
 
 use crate::device::{Halt, Halts, Write};
 use std::io;
@@ -23,6 +24,17 @@ impl<W: io::Write + Drop> Output<W> {
         }
     }
 
+    /// Counts an interruption or a failure of another call on the inner writer than a write, as of a sync.
+    pub fn count(&mut self, halt: Halt)
+        ensures inner { self.new.inner ≡ self.old.inner }
+        ensures interrupted { WentOn (interrupted
+            (Err halt)) (interrupted_calls self.old) (interrupted_calls self.new) }
+        ensures failed { WentOn (read_failed (Err halt)) (failed_calls self.old)
+            (failed_calls self.new) }
+    {
+        self.halts.count(halt);
+    }
+
     /// Gives the writer back.
     pub fn into_inner(self) -> W
         ensures { result ≡ self.inner }
@@ -37,9 +49,9 @@ impl<W: io::Write + Drop> Write for Output<W> {
 
     ghost written = { λ _. None };
 
-    ghost interruptions = { λ o. interrupted_writes o };
+    ghost interruptions = { λ o. interrupted_calls o };
 
-    ghost failures = { λ o. failed_writes o };
+    ghost failures = { λ o. failed_calls o };
 
     /// Writes once to the inner writer, and gives how many bytes it took. An error counts as an interruption (`Again`)
     /// or a failure (`Failed`); taking none of some bytes counts as a failure too.

@@ -1,3 +1,4 @@
+pub mod Halting
 pub mod Lines
 pub mod Records
 pub mod Heads

@@ -1,5 +1,7 @@
 //! Devices whose last bytes can be dropped.
-ghost use Rattle.std.specs.Prelude.{◌≡◌, OnErr, OnOk, false, option_map, take, true};
+ghost use Rattle.std.specs.Prelude.{◌≡◌, IfErr, OnErr, OnOk, false, option_map, take, true};
+ghost use Rattle.bf_device.specs.Device.{HasGoneOn, HasHalted};
+ghost use Rattle.bf_journal.specs.Halting.{Counts, CountsNone};
 
 use crate::durable::Durable;
 use bf_device::{Halt, MOST_INTERRUPTIONS, Output};
@@ -8,11 +10,17 @@ use std::io;
 
 /// A device that can drop bytes from its end.
 pub trait Cuttable: Durable {
-    /// Keeps the first `count` bytes of the device and drops the rest; drops none at an Err.
+    /// Keeps the first `count` bytes of the device and drops the rest. `Again` where that was interrupted, `Failed`
+    /// where it failed: it drops none then, and the device counts either.
     fn cut(&mut self, count: usize) -> Result<(), Halt>
         ensures ok { OnOk result (Self.written self.new
             ≡ option_map (take count) (Self.written self.old)) }
-        ensures err { OnErr result (Self.written self.new ≡ Self.written self.old) };
+        ensures kept { OnErr result (Self.written self.new ≡ Self.written self.old) }
+        ensures uncounted { OnOk result (CountsNone (Self.failures self.old) (Self.failures self.new)
+            (Self.interruptions self.old) (Self.interruptions self.new)) }
+        ensures counted { IfErr result (λ halt. Counts halt
+            (Self.failures self.old) (Self.failures self.new)
+            (Self.interruptions self.old) (Self.interruptions self.new)) };
 }
 
 impl<F: io::Write + OpenFile + Drop> Cuttable for Output<F> {
@@ -20,7 +28,11 @@ impl<F: io::Write + OpenFile + Drop> Cuttable for Output<F> {
     fn cut(&mut self, count: usize) -> Result<(), Halt> {
         match self.inner.set_len(count as u64) {
             Ok(()) => Ok(()),
-            Err(error) => Err(Halt::from_error(&error)),
+            Err(error) => {
+                let halt = Halt::from_error(&error);
+                self.count(halt);
+                Err(halt)
+            }
         }
     }
 }
@@ -31,6 +43,10 @@ pub(crate) fn try_cut<D: Cuttable>(device: &mut D, count: usize) -> bool
     ensures cut { result ≡ true → D.written device.new
         ≡ option_map (take count) (D.written device.old) }
     ensures kept { result ≡ false → D.written device.new ≡ D.written device.old }
+    ensures went_on { result ≡ true → HasGoneOn (D.failures device.old) (D.failures device.new)
+        (D.interruptions device.old) (D.interruptions device.new) }
+    ensures halted { result ≡ false → HasHalted (D.failures device.old) (D.failures device.new)
+        (D.interruptions device.old) (D.interruptions device.new) }
 {
     for _ in 0..=MOST_INTERRUPTIONS {
         match device.cut(count) {

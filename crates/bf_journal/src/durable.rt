@@ -1,5 +1,7 @@
 //! Devices whose bytes outlast a power cut.
-ghost use Rattle.std.specs.Prelude.{◌≡◌, true, ℕ, List, Option, OnOk};
+ghost use Rattle.std.specs.Prelude.{◌≡◌, false, true, ℕ, List, Option, IfErr, OnOk};
+ghost use Rattle.bf_device.specs.Device.{HasGoneOn, HasHalted};
+ghost use Rattle.bf_journal.specs.Halting.{Counts, CountsNone};
 
 use bf_device::{Halt, MOST_INTERRUPTIONS, Memory, Output, Write};
 use std::fs::OpenFile;
@@ -11,10 +13,15 @@ pub trait Durable: Write {
     ghost outlasting: { Self → Option (List ℕ) };
 
     /// Returns once all that was written so far outlasts a power cut. `Again` where that was interrupted, `Failed`
-    /// where it failed. What was written stays the same either way.
+    /// where it failed; the device counts either. What was written stays the same.
     fn sync(&mut self) -> Result<(), Halt>
         ensures kept { Self.written self.new ≡ Self.written self.old }
-        ensures synced { OnOk result (outlasting self.new ≡ Self.written self.new) };
+        ensures synced { OnOk result (outlasting self.new ≡ Self.written self.new) }
+        ensures uncounted { OnOk result (CountsNone (Self.failures self.old) (Self.failures self.new)
+            (Self.interruptions self.old) (Self.interruptions self.new)) }
+        ensures counted { IfErr result (λ halt. Counts halt
+            (Self.failures self.old) (Self.failures self.new)
+            (Self.interruptions self.old) (Self.interruptions self.new)) };
 }
 
 impl<F: io::Write + OpenFile + Drop> Durable for Output<F> {
@@ -26,7 +33,11 @@ impl<F: io::Write + OpenFile + Drop> Durable for Output<F> {
     fn sync(&mut self) -> Result<(), Halt> {
         match self.inner.sync_data() {
             Ok(()) => Ok(()),
-            Err(error) => Err(Halt::from_error(&error)),
+            Err(error) => {
+                let halt = Halt::from_error(&error);
+                self.count(halt);
+                Err(halt)
+            }
         }
     }
 }
@@ -49,6 +60,10 @@ impl Durable for Memory {
 pub(crate) fn try_sync<D: Durable>(device: &mut D) -> bool
     ensures kept { D.written device.new ≡ D.written device.old }
     ensures synced { result ≡ true → D.outlasting device.new ≡ D.written device.new }
+    ensures went_on { result ≡ true → HasGoneOn (D.failures device.old) (D.failures device.new)
+        (D.interruptions device.old) (D.interruptions device.new) }
+    ensures halted { result ≡ false → HasHalted (D.failures device.old) (D.failures device.new)
+        (D.interruptions device.old) (D.interruptions device.new) }
 {
     for _ in 0..=MOST_INTERRUPTIONS {
         match device.sync() {
