@@ -11,7 +11,7 @@ ghost use Rattle.bf_clear.specs.inner.Aligning.{AreAlignedBy, AreApart};
 use crate::matching::is_same_interval;
 use bf_interval::{Interval, Runs};
 use bf_plan::{Plan, Task};
-use bf_report::{Report, RunReport, TaskReport};
+use bf_report::{Report, RunReport, TaskReport, ids_of};
 use bf_value::{OutOfMemory, Sequence, Text};
 use bf_xcom::RunState;
 use std::alloc::Global;
@@ -35,17 +35,6 @@ fn places_of(alloc: Global, ids: &[Text], tasks: &[Task]) -> Result<Vec<Option<u
         places.push(place_of(ids, task))?;
     }
     Ok(places)
-}
-
-/// The ids of these tasks, in order.
-fn ids_of(alloc: Global, tasks: &[Task]) -> Result<Sequence<Text>, OutOfMemory>
-    ensures { IfOk result (λ ids. ids ≡ map (λ task. task.id) tasks.now) }
-{
-    let mut ids = Vec::with_capacity(alloc, tasks.len())?;
-    for task in tasks {
-        ids.push(task.id.copy(alloc)?)?;
-    }
-    Ok(Sequence::from_vec(ids))
 }
 
 /// Takes out what a report has of the task at `place`, from 0, and leaves no_status there. Gives no_status where

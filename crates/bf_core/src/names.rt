@@ -14,7 +14,7 @@ use bf_value::JobName;
 
 /// Whether a task is expanded over another; false where there is no such task.
 #[tactic(auto, unfolding(bf_plan::specs::Plans::task_of))]
-fn is_expanded(dag: &Dag, task: u32) -> bool
+pub fn is_expanded(dag: &Dag, task: u32) -> bool
     ensures { result ≡ is_some (task_of dag.now task).expand }
 {
     match dag.tasks.get(task as usize) {

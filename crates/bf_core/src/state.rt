@@ -35,7 +35,7 @@ const ONE_UNFINISHED: Counts = Counts {
 };
 
 /// The counts of a single instance that finished with this outcome: 1 for its state, 0 for all others.
-fn counts_of_outcome(outcome: &Outcome) -> Counts
+pub fn counts_of_outcome(outcome: &Outcome) -> Counts
     ensures { result ≡ one_of outcome.now }
 {
     let mut counts = Counts::NONE;

@@ -22,5 +22,5 @@ pub use laws::{
     a_seed_with_an_index_leaves_its_neighbours, dependents_are_least, places_are_what_follows,
     seeds_without_indexes_take_tasks,
 };
-pub use place::Place;
+pub use place::{Place, add_place};
 pub use seeds::{Seed, place_of, places_of};

@@ -1,12 +1,12 @@
 //! Seeds: what is to be cleared.
-ghost use Rattle.std.specs.Prelude.{◌≡◌, ◌≤◌, ◌∷◌, ◌++◌, [], length, IfOk, IfErr, OnErr, OnOk, Some, None};
+ghost use Rattle.std.specs.Prelude.{◌≡◌, ◌≤◌, ◌∷◌, [], length, IfOk, IfErr, Some, None};
 ghost use Rattle.bf_dependents.specs.Seeds.{IsSeedFault, place_in, places_in, run_number, seed_fault, task_number};
 
 use crate::fault::ClearFault;
-use crate::place::Place;
+use crate::place::{Place, add_place};
 use bf_interval::Interval;
 use bf_plan::Plan;
-use bf_value::{OutOfMemory, Text};
+use bf_value::Text;
 use jiff::Timestamp;
 use std::alloc::Global;
 
@@ -55,15 +55,6 @@ pub fn place_of(plan: &Plan, intervals: &[Interval], seed: &Seed) -> Result<Plac
         task,
         index: seed.index,
     })
-}
-
-/// Adds a place at the end of `places`; `Err` changes nothing.
-fn add_place(places: &mut Vec<Place>, place: Place) -> Result<(), OutOfMemory>
-    ensures ok { OnOk result (places.new.items ≡ places.old.items ++ place ∷ []) }
-    ensures err { OnErr result (places.new.items ≡ places.old.items) }
-{
-    places.push(place)?;
-    Ok(())
 }
 
 /// The places that these seeds name, in order. `UnknownTask` where any names a task that the plan lacks, else

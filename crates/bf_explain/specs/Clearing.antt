@@ -15,7 +15,7 @@ use Rattle.bf_wording.specs.Numbers.{count_text_of}
 use Rattle.bf_explain.specs.declared.clearing.ClearedCount.{ClearedCount}
 use Rattle.bf_explain.specs.declared.paths.Paths.{Paths}
 use Rattle.bf_explain.specs.Began.{other_run_text_of}
-use Rattle.bf_explain.specs.Moments.{short_moment_of}
+use Rattle.bf_wording.specs.Moments.{short_moment_of}
 use Rattle.bf_explain.specs.Sections.{section}
 
 -- ---- the words of the line

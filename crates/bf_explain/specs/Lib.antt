@@ -4,7 +4,6 @@ pub mod Headings
 pub mod Indexes
 pub mod Began
 pub mod ByHand
-pub mod Moments
 pub mod Clearing
 pub mod Runs
 pub mod Tasks

@@ -2,14 +2,13 @@
 ghost use Rattle.std.specs.Prelude.{◌≡◌, ◌++◌, ◌∷◌, [], IfOk, OnOk, codes, option_copied};
 ghost use Rattle.bf_explain.specs.Clearing.{begins_with_hyphen_in, clear_line_of, clear_words_of, option_words, path_words, range_words, seed_words, short_start_of, short_start_in, zone_words};
 
-use crate::moments::short_moment;
 use crate::paths::Paths;
 use bf_dependents::Place;
 use bf_plan::Plan;
 use bf_quoted::{push_line, push_quoted};
 use bf_report::{Report, RunReport};
 use bf_value::{OutOfMemory, Text};
-use bf_wording::{add_line, add_line_if};
+use bf_wording::{add_line, add_line_if, short_moment};
 use std::alloc::Global;
 
 /// Whether a word begins with a hyphen, as options do.

@@ -20,7 +20,6 @@ mod clearing;
 mod given;
 mod headings;
 mod indexes;
-mod moments;
 mod neighbours;
 mod own;
 mod paths;

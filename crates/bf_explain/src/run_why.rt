@@ -1,17 +1,16 @@
 //! Why a run has its state.
-ghost use Rattle.std.specs.Prelude.{◌≡◌, ◌==◌, ◌&&◌, ◌++◌, ◌∷◌, [], IfOk, OnOk, if◌then◌else◌, length};
+ghost use Rattle.std.specs.Prelude.{◌≡◌, ◌&&◌, IfOk};
 ghost use Rattle.std.specs.List.{list_any};
 ghost use Rattle.bf_core.specs.Deciding.{is_blocked_in};
 ghost use Rattle.bf_explain.specs.Runs.{is_or_are_of, blocked_sentence_of, ids_of, is_last_in, is_upstream_in, last_sentence_of, run_why_of, run_why_lines_of};
 ghost use Rattle.bf_reason.specs.Settled.{value_among};
-ghost use Rattle.bf_why.specs.Decided.{id_of};
 ghost use Rattle.bf_why.specs.Since.{failures, has_instance_of};
 
 use bf_plan::{Dag, Plan, Task};
 use bf_reason::{Settled, is_blocked};
 use bf_value::{OutOfMemory, Text};
-use bf_why::{States, has_instance_in, no_status_text};
-use bf_wording::{add_line_if, add_lines, name_list, one_line};
+use bf_why::{States, add_id_if, has_instance_in, no_status_text};
+use bf_wording::{add_lines, name_list, one_line};
 use std::alloc::Global;
 
 /// Whether task number `task` is directly upstream of `other`.
@@ -37,20 +36,6 @@ fn is_last_failed(plan: &Plan, settled: &[Settled<'_>], task: u32) -> bool
     ensures { result ≡ (is_last_in plan.now.dag task && has_instance_of settled.now failures task) }
 {
     has_instance_in(settled, States::FAILURES, task) && !has_downstream(plan.dag(), task)
-}
-
-/// Adds the id of task number `task` to `ids` where `holds`; adds nothing otherwise.
-fn add_id_if(
-    alloc: Global,
-    ids: &mut Vec<Text>,
-    plan: &Plan,
-    task: u32,
-    holds: bool,
-) -> Result<(), OutOfMemory>
-    ensures { OnOk result (ids.new.items ≡ ids.old.items
-        ++ (if holds then id_of plan.now.dag task ∷ [] else [])) }
-{
-    add_line_if(alloc, ids, holds, plan.dag().id_of(task))
 }
 
 /// The ids of the tasks in `order` that no task follows and that have an instance failed or upstream_failed, in that

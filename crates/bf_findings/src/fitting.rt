@@ -7,7 +7,7 @@ ghost use Rattle.bf_findings.specs.Places.{word_key_name, word_keys};
 ghost use Rattle.bf_findings.specs.Fitting.{tasks_at, has_id_in, is_task_id_in, is_task_id_before_in, pools_at, is_pool_name_in, text_fits_in, is_between_in, is_whole_number_between_in, has_at_most_items_in, is_word_object_in, non_text_fits_in};
 
 use crate::form::Form;
-use crate::keys::WORD_KEYS;
+use crate::place::WORD_KEYS;
 use bf_plan::{ContextVariable, TaskKind, WeightRule, is_id};
 use bf_read::{DEFAULT_POOL, GraphKey, LONGEST_WORD, MOST_TASKS, MOST_WORDS, TaskKey};
 use bf_rule::Rule;

@@ -11,7 +11,6 @@ mod finding;
 mod fitting;
 mod form;
 mod judging;
-mod keys;
 mod laws;
 mod listing;
 mod names;

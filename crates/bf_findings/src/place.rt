@@ -11,6 +11,9 @@ pub enum WordKey {
     Item,
 }
 
+/// All keys of a word that is an object.
+pub(crate) const WORD_KEYS: [WordKey; 3] = [WordKey::Context, WordKey::Pull, WordKey::Item];
+
 impl WordKey {
     ghost use Rattle.std.specs.Prelude.{◌≡◌};
     ghost use Rattle.bf_findings.specs.Places.{word_key_name};

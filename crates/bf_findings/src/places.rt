@@ -5,9 +5,8 @@ ghost use Rattle.bf_findings.specs.Listed.{graph_key_places, task_key_places, ot
 ghost use Rattle.bf_findings.specs.Fitting.{pools_at};
 
 use crate::fitting::{pools_in, tasks_in};
-use crate::keys::{GRAPH_KEYS, TASK_KEYS, WORD_KEYS, is_graph_key, is_task_key};
-use crate::place::DocumentPlace;
-use bf_read::TaskKey;
+use crate::place::{DocumentPlace, WORD_KEYS};
+use bf_read::{GRAPH_KEYS, TASK_KEYS, TaskKey, is_graph_key, is_task_key};
 use bf_value::{OutOfMemory, Text};
 use serde_json::{Map, Value};
 use std::alloc::Global;

@@ -8,7 +8,7 @@ use Rattle.bf_marks.specs.Labels.{left, right}
 use Rattle.bf_marks.specs.Tallies.{tally_in}
 use Rattle.bf_wording.specs.Lists.{name_list_of}
 use Rattle.bf_wording.specs.Numbers.{number_text, count_text_of}
-use Rattle.bf_marks.specs.Phrases.{short_moment_of}
+use Rattle.bf_wording.specs.Moments.{short_moment_of}
 
 -- an instance of the task failed in the run
 abbrev pub has_failed : ℕ → RunReport → Bool

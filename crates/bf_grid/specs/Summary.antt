@@ -4,7 +4,7 @@ use Rattle.bf_report.specs.declared.report.RunReport.{RunReport}
 use Rattle.bf_marks.specs.CellMarks.{painted}
 use Rattle.bf_marks.specs.Tallies.{states_tally}
 use Rattle.bf_wording.specs.Numbers.{number_text, count_text_of}
-use Rattle.bf_marks.specs.Phrases.{short_moment_of}
+use Rattle.bf_wording.specs.Moments.{short_moment_of}
 
 abbrev pub dates_of : Option RunReport → Option RunReport → List ℕ
 dates_of (Some first) (Some last) =

@@ -1,13 +1,14 @@
 //! Numbers, moments and lists of moments as people read them, each added behind a text.
-ghost use Rattle.std.specs.Prelude.{◌≡◌, ◌≤◌, ◌++◌, IfOk, OnOk, length};
-ghost use Rattle.std.specs.Str.{IsAscii};
+ghost use Rattle.std.specs.Prelude.{◌≡◌, ◌++◌, IfOk, OnOk};
 ghost use Rattle.bf_moment.specs.Moment.{IsShown};
 ghost use Rattle.bf_wording.specs.Lists.{name_list_of};
 ghost use Rattle.bf_wording.specs.Numbers.{number_text, count_text_of};
-ghost use Rattle.bf_marks.specs.Phrases.{short_moment_of, short_moments, without_midnight};
+ghost use Rattle.bf_wording.specs.Moments.{short_moment_of};
+ghost use Rattle.bf_marks.specs.Phrases.{short_moments};
 
 use bf_moment::{Moment, moment_bytes};
 use bf_value::{OutOfMemory, Text};
+use bf_wording::{short_moment, without_midnight};
 use jiff::Timestamp;
 use std::alloc::Global;
 
@@ -42,27 +43,13 @@ pub fn push_counted_noun(
     push(text, shown.as_bytes())
 }
 
-/// The date of `moment`, such as `2024-01-25`, where its time is midnight in UTC, else all of `moment`. It is written
-/// as `2024-01-25T06:00:00Z`.
-fn short_moment(moment: &[u8]) -> &[u8]
-    requires long { 10 ≤ length moment.now }
-    requires ascii { IsAscii moment.now }
-    ensures short { result.now ≡ without_midnight moment.now }
-    ensures ascii { IsAscii result.now }
-{
-    if &moment[10..] == b"T00:00:00Z".as_slice() {
-        return &moment[..10];
-    }
-    moment
-}
-
 /// Adds a moment in UTC, such as `2024-01-25T06:00:00Z`; just the date, such as `2024-01-25`, where its time is
 /// midnight.
 pub fn push_moment(text: &mut Vec<u8>, moment: Timestamp) -> Result<(), OutOfMemory>
     requires { IsShown moment.nanosecond }
     ensures { OnOk result (text.new.items ≡ text.old.items ++ short_moment_of moment.nanosecond) }
 {
-    push(text, short_moment(&moment_bytes(moment)))
+    push(text, without_midnight(&moment_bytes(moment)))
 }
 
 /// The text of a moment in UTC, such as `2024-01-25T06:00:00Z`; just the date, such as `2024-01-25`, where its time is
@@ -70,11 +57,7 @@ pub fn push_moment(text: &mut Vec<u8>, moment: Timestamp) -> Result<(), OutOfMem
 fn short_moment_text(alloc: Global, moment: Moment) -> Result<Text, OutOfMemory>
     ensures { IfOk result (λ name. name ≡ short_moment_of moment.at.nanosecond) }
 {
-    let bytes = moment_bytes(moment.at);
-    let Ok(text) = std::str::from_utf8(short_moment(&bytes)) else {
-        unreachable!();
-    };
-    Text::copy_of(alloc, text)
+    short_moment(alloc, moment.at)
 }
 
 /// The text of each of these moments in UTC, in order, such as `2024-01-25T06:00:00Z`; just the date where its time is

@@ -32,7 +32,7 @@ pub enum TaskKey {
 }
 
 /// All keys of a graph file's outer object, in the order in which they are read.
-const GRAPH_KEYS: [GraphKey; 6] = [
+pub const GRAPH_KEYS: [GraphKey; 6] = [
     GraphKey::DagId,
     GraphKey::Schedule,
     GraphKey::Zone,
@@ -42,7 +42,7 @@ const GRAPH_KEYS: [GraphKey; 6] = [
 ];
 
 /// All keys of a task's object, in the order in which they are read.
-const TASK_KEYS: [TaskKey; 13] = [
+pub const TASK_KEYS: [TaskKey; 13] = [
     TaskKey::Id,
     TaskKey::Upstream,
     TaskKey::Rule,
@@ -98,14 +98,14 @@ impl TaskKey {
 }
 
 /// Answers whether a graph file's outer object may have this key.
-pub(crate) fn is_graph_key(name: &str) -> bool
+pub fn is_graph_key(name: &str) -> bool
     ensures { result ≡ is_graph_key_in name.now }
 {
     GRAPH_KEYS.iter().any(|key| name == key.name())
 }
 
 /// Answers whether a task's object may have this key.
-pub(crate) fn is_task_key(name: &str) -> bool
+pub fn is_task_key(name: &str) -> bool
     ensures { result ≡ is_task_key_in name.now }
 {
     TASK_KEYS.iter().any(|key| name == key.name())

@@ -26,7 +26,7 @@ mod texts;
 pub use command::pulls_of;
 pub use draft::{DEFAULT_POOL, Draft, PoolDraft, TaskDraft, WordDraft};
 pub use fault::ReadFault;
-pub use keys::{GraphKey, TaskKey};
+pub use keys::{GRAPH_KEYS, GraphKey, TASK_KEYS, TaskKey, is_graph_key, is_task_key};
 pub use limits::{
     GREATEST_WEIGHT, LONGEST_RETRY_DELAY, LONGEST_WORD, MOST_ACTIVE_RUNS, MOST_BYTES, MOST_PULLS,
     MOST_RETRIES, MOST_SLOTS, MOST_TASKS, MOST_WORDS,

@@ -13,6 +13,7 @@ ghost use Rattle.bf_reason.specs.Settled.{before_among, seen_among, value_among}
 ghost use Rattle.bf_rule.specs.Verdicts.{total_of};
 
 use crate::settled::Settled;
+use bf_core::is_expanded;
 use bf_plan::{Dag, Plan, Task};
 use bf_rule::{Counts, Verdict, followed, verdict};
 use bf_value::Xval;
@@ -195,17 +196,6 @@ fn past_lets_go_on(task: &Task, run: usize, before: &[Settled<'_>], number: u32)
         (before_among before.now run number) }
 {
     !task.depends_on_past || run == 0 || has_passed(before, number)
-}
-
-/// Whether task number `task` is expanded; false where the graph has no such task.
-#[tactic(auto, unfolding(bf_plan::specs::Plans::task_of))]
-pub fn is_expanded(dag: &Dag, task: u32) -> bool
-    ensures { result ≡ is_some (task_of dag.now task).expand }
-{
-    match dag.tasks.get(task as usize) {
-        Some(task) => task.expand.is_some(),
-        None => false,
-    }
 }
 
 /// How many of these instances pushed a value.

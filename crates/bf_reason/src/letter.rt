@@ -8,8 +8,9 @@ ghost use Rattle.bf_report.specs.declared.report.InstanceReport.{InstanceReport}
 ghost use Rattle.bf_report.specs.declared.report.TaskReport.{TaskReport};
 ghost use Rattle.bf_report.specs.declared.report.Report.{Report};
 
-use crate::cause::{StateCause, cause_at, is_expanded};
+use crate::cause::{StateCause, cause_at};
 use crate::settled::Settled;
+use bf_core::is_expanded;
 use bf_plan::Plan;
 use bf_report::TaskReport;
 use bf_xcom::{Outcome, TaskResult};

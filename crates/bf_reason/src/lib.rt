@@ -10,7 +10,7 @@ mod letter;
 mod settled;
 
 pub use cause::{
-    StateCause, cause_at, counts_at, counts_of_tasks, is_blocked, is_blocked_branch, is_expanded,
+    StateCause, cause_at, counts_at, counts_of_tasks, is_blocked, is_blocked_branch,
     is_skipping_branch,
 };
 pub use laws::{

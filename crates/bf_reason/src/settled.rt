@@ -1,16 +1,17 @@
 //! What came of the tasks of a run.
 ghost use Rattle.std.specs.Prelude.{◌≡◌, ◌≤◌, All, IfOk, length};
 ghost use Rattle.bf_clear.specs.Entries.{value_in};
-ghost use Rattle.bf_core.specs.Deciding.{counts_in, counts_of_results_of, one_of};
+ghost use Rattle.bf_core.specs.Deciding.{counts_in, counts_of_results_of};
 ghost use Rattle.bf_reason.specs.Settled.{IsFewTask, results_of};
 ghost use Rattle.bf_reason.specs.inner.Settled.{IsFewValue};
 ghost use Rattle.bf_rule.specs.Verdicts.{total_of};
 
 use bf_clear::value_of;
+use bf_core::counts_of_outcome;
 use bf_report::TaskReport;
 use bf_rule::Counts;
 use bf_value::OutOfMemory;
-use bf_xcom::{Outcome, TaskResult, TaskValue};
+use bf_xcom::{TaskResult, TaskValue};
 use std::alloc::Global;
 use std::marker::Model;
 
@@ -36,19 +37,6 @@ impl<'a> Model for Settled<'a> {
     ghost view = { λ s. s.told.now };
 
     ghost invariant = { λ s. IsCounted s.told.now s.value s.counts };
-}
-
-/// The counts of one instance that ended with this outcome.
-fn counts_of_outcome(outcome: &Outcome) -> Counts
-    ensures { result ≡ one_of outcome.now }
-{
-    let mut counts = Counts::NONE;
-    match outcome {
-        Outcome::Success(_) => counts.success = 1,
-        Outcome::Failed => counts.failed = 1,
-        Outcome::Skipped => counts.skipped = 1,
-    }
-    counts
 }
 
 /// How many of these instances, at most 1,024, ended in each state.

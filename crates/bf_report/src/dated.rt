@@ -95,7 +95,7 @@ fn task_reports(
 }
 
 /// Copies the ids of these tasks, in order.
-fn ids_of(alloc: Global, tasks: &[Task]) -> Result<Sequence<Text>, OutOfMemory>
+pub fn ids_of(alloc: Global, tasks: &[Task]) -> Result<Sequence<Text>, OutOfMemory>
     ensures { IfOk result (λ ids. ids ≡ map (λ task. task.id) tasks.now) }
 {
     let mut ids = Vec::with_capacity(alloc, tasks.len())?;

@@ -4,8 +4,9 @@ ghost use Rattle.bf_roots.specs.Onward.{tasks_of_option_of, began_in, began_by_e
 
 use crate::step::{Began, Root, WalkStep};
 use crate::upstreams::{blocked_branches, blocked_tasks, branches_that_skip, tasks_in_states};
+use bf_core::is_expanded;
 use bf_plan::{Plan, Task};
-use bf_reason::{Settled, StateCause, cause_at, is_expanded};
+use bf_reason::{Settled, StateCause, cause_at};
 use bf_report::TaskReport;
 use bf_rule::Rule;
 use bf_value::OutOfMemory;

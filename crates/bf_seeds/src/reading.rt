@@ -1,15 +1,15 @@
 //! Seeds files.
-ghost use Rattle.std.specs.Prelude.{◌≡◌, ◌⊎◌, ◌≤◌, ◌∷◌, ◌++◌, [], length, map, IfOk, IfErr, OnErr, OnOk};
+ghost use Rattle.std.specs.Prelude.{◌≡◌, ◌⊎◌, ◌≤◌, length, map, IfOk, IfErr};
 ghost use Rattle.bf_seeds.specs.declared.fault.SeedsFault.TheVariants;
 ghost use Rattle.bf_seeds.specs.Seeds.{ArePlaces, IsFaultOfLine, IsFirstFault, lines_in};
 ghost use Rattle.bf_seeds.specs.inner.Seeds.{IsPlaceOf};
 
 use crate::fault::SeedsFault;
 use crate::line::words_in;
-use bf_dependents::{Place, Seed, place_of};
+use bf_dependents::{Place, Seed, add_place, place_of};
 use bf_interval::Interval;
 use bf_plan::Plan;
-use bf_value::{OutOfMemory, Text};
+use bf_value::Text;
 use std::alloc::{AllocError, Global};
 
 /// The lines of a text that aren't empty, without their ends.
@@ -54,15 +54,6 @@ fn place_in_line(
         Ok(place) => Ok(place),
         Err(fault) => Err(SeedsFault::Unknown(fault)),
     }
-}
-
-/// Adds a place at the end of `places`; `Err` changes nothing.
-fn add_place(places: &mut Vec<Place>, place: Place) -> Result<(), OutOfMemory>
-    ensures ok { OnOk result (places.new.items ≡ places.old.items ++ place ∷ []) }
-    ensures err { OnErr result (places.new.items ≡ places.old.items) }
-{
-    places.push(place)?;
-    Ok(())
 }
 
 /// The places that these lines name, in order. For the first bad line `BadSeed` where it has another form, or `Unknown`

@@ -21,5 +21,5 @@ mod why;
 pub use counted::counts_text;
 pub use foreign::is_foreign;
 pub use states::{States, has_instance_in};
-pub use upstreams::no_status_text;
+pub use upstreams::{add_id_if, no_status_text};
 pub use why::why_lines;

@@ -6,8 +6,9 @@ ghost use Rattle.bf_report.specs.declared.report.TaskReport.{TaskReport};
 ghost use Rattle.bf_why.specs.Decided.{expanded_sentence_of, items_text_of, source_sentences};
 
 use crate::came::came_text;
+use bf_core::is_expanded;
 use bf_plan::Plan;
-use bf_reason::{Settled, StateCause, is_expanded};
+use bf_reason::{Settled, StateCause};
 use bf_value::{OutOfMemory, Text};
 use bf_wording::count_text;
 use std::alloc::Global;

@@ -5,8 +5,8 @@ ghost use Rattle.bf_core.specs.Terms.{task_of};
 ghost use Rattle.bf_why.specs.Tried.{all_failed_text_of, failed_text_of, failings, later_text_of, not_allowed_text_of, skipped_text_of, succeeded_text_of, tried_of};
 ghost use Rattle.bf_try.specs.Grades.{gives_items_in, is_source};
 
+use bf_core::is_expanded;
 use bf_plan::{Dag, Plan, Task};
-use bf_reason::is_expanded;
 use bf_value::{OutOfMemory, Text};
 use bf_wording::{add_line, add_line_if, one_line, text_of_number};
 use bf_xcom::{Outcome, TaskResult};

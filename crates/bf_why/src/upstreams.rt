@@ -74,7 +74,7 @@ pub(crate) fn branch_sentences(
 }
 
 /// Adds the id of task number `task` to `ids` where `holds`; adds nothing otherwise.
-fn add_id_if(
+pub fn add_id_if(
     alloc: Global,
     ids: &mut Vec<Text>,
     plan: &Plan,

@@ -1,4 +1,4 @@
--- Moments as short as a line takes them.
+-- Moments as people read them.
 use Rattle.std.specs.Prelude.{ℕ, ℤ, if◌then◌else◌, List, codes, drop, take}
 use Rattle.std.specs.Str.{bytes_eq}
 use Rattle.bf_moment.specs.Moment.{moment_text}

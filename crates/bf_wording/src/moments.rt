@@ -1,7 +1,7 @@
-//! Moments as short as a line takes them.
+//! Moments as people read them.
 ghost use Rattle.std.specs.Prelude.{◌≡◌, ◌≤◌, IfOk, length};
 ghost use Rattle.std.specs.Str.{IsAscii};
-ghost use Rattle.bf_explain.specs.Moments.{short_moment_of, without_midnight_of};
+ghost use Rattle.bf_wording.specs.Moments.{short_moment_of, without_midnight_of};
 ghost use Rattle.bf_moment.specs.Moment.{IsShown};
 
 use bf_moment::moment_bytes;
@@ -11,7 +11,7 @@ use std::alloc::Global;
 
 /// The date of `moment`, such as `2024-01-25`, where its time is midnight in UTC, else all of `moment`. It is written
 /// as `2024-01-25T06:00:00Z`.
-fn without_midnight(moment: &[u8]) -> &[u8]
+pub fn without_midnight(moment: &[u8]) -> &[u8]
     requires long { 10 ≤ length moment.now }
     requires ascii { IsAscii moment.now }
     ensures short { result.now ≡ without_midnight_of moment.now }
@@ -25,7 +25,7 @@ fn without_midnight(moment: &[u8]) -> &[u8]
 
 /// The text of a moment in UTC, such as `2024-01-25T06:00:00Z`; just the date, such as `2024-01-25`, where its time is
 /// midnight.
-pub(crate) fn short_moment(alloc: Global, moment: Timestamp) -> Result<Text, OutOfMemory>
+pub fn short_moment(alloc: Global, moment: Timestamp) -> Result<Text, OutOfMemory>
     requires { IsShown moment.nanosecond }
     ensures { IfOk result (λ text. text ≡ short_moment_of moment.nanosecond) }
 {
