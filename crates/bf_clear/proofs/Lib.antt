@@ -1,7 +1,7 @@
 pub mod Told
 pub mod Instances
 pub mod Rests
-pub mod Lookups
+pub mod LookupFacts
 pub mod Replies
 pub mod Within
 pub mod Own

@@ -1,8 +1,8 @@
 //! What is kept of a report.
 ghost use Rattle.std.specs.Prelude.{◌≡◌};
 
-use crate::looking::instance_at;
-use crate::telling::answer_of_instance;
+use crate::lookups::instance_at;
+use crate::tries::answer_of_instance;
 use bf_dependents::Followers;
 use bf_kept::KeptTries;
 use bf_plan::Plan;

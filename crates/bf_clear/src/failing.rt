@@ -5,7 +5,7 @@ ghost use Rattle.bf_dependents.specs.Listing.{up_to};
 ghost use Rattle.bf_clear.specs.Failing.{AreFailed};
 ghost use Rattle.bf_clear.specs.inner.Failing.{count_at, failed_at, failed_of_run, failed_of_task_in};
 
-use crate::looking::{instance_at, task_at};
+use crate::lookups::{instance_at, task_at};
 use bf_dependents::Place;
 use bf_interval::Runs;
 use bf_plan::Plan;

@@ -2,7 +2,7 @@
 ghost use Rattle.std.specs.Prelude.{◌≡◌, ◌<◌, ◌↔◌, length, map, Some, IsTrue, IfOk};
 ghost use Rattle.bf_clear.specs.Entries.{item_in, pull_from, value_in, value_reported_at, given_by_values_in};
 
-use crate::looking::task_at;
+use crate::lookups::task_at;
 use bf_plan::Dag;
 use bf_report::{InstanceReport, Report, TaskReport};
 use bf_value::{JobName, OutOfMemory, Sequence, Xval, copy_option};

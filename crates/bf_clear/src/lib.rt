@@ -13,9 +13,9 @@ mod clearing;
 mod failing;
 mod given;
 mod laws;
-mod looking;
+mod lookups;
 mod matching;
-mod telling;
+mod tries;
 
 pub use cleared::Cleared;
 pub use clearing::{clear_places, clear_places_by_ids};

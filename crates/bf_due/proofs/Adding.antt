@@ -19,8 +19,7 @@ use Rattle.bf_due.specs.declared.agenda.Turn.{Turn}
 use Rattle.bf_due.specs.declared.cursors.Cursors.{Cursors}
 use Rattle.bf_due.specs.declared.news.News.{News}
 use Rattle.bf_due.specs.Cursors.{AreNoted}
-use Rattle.bf_due.specs.Stirring.{is_settled}
-use Rattle.bf_due.specs.inner.Stirring.{may_let_be_decided_in}
+use Rattle.bf_due.specs.inner.Stirring.{is_settled, may_let_be_decided_in}
 use Rattle.bf_due.specs.Dues.{HasAdded, IsDueStep, IsRanked}
 use Rattle.bf_due.specs.inner.Dues.{Asks, AsksAll, IsAround, IsBelow, IsCloseOf, IsOfFirst, IsOfRun, IsOfRunBelow, IsOfTask, IsOpening, IsStirred, IsUnder}
 use Rattle.bf_due.proofs.AgendaFacts.{kept_added, only_added, there_added}

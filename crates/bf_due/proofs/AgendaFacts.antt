@@ -13,7 +13,8 @@ use Rattle.bf_due.specs.declared.agenda.Step.{Step}
 use Rattle.bf_due.specs.declared.agenda.Turn.{Turn}
 use Rattle.bf_due.specs.contracts.agenda.StepOrd.TheImpl as by_step
 use Rattle.bf_due.specs.contracts.agenda.TurnOrd.TheImpl as by_turn
-use Rattle.bf_due.specs.Agendas.{Comes, TurnComes, reverse_cmp}
+use Rattle.bf_due.specs.Agendas.{reverse_cmp}
+use Rattle.bf_due.specs.inner.Agendas.{Comes, TurnComes}
 
 -- ---- the order
 

@@ -15,8 +15,7 @@ use Rattle.bf_core.specs.Events.{after, before_in, cell_at, cell_of, change_at, 
 use Rattle.bf_core.proofs.Instances.{instance_here}
 use Rattle.bf_core.proofs.Reading.{put_cases}
 use Rattle.bf_due.specs.declared.news.News.{News}
-use Rattle.bf_due.specs.Stirring.{all_settled, decided_at, ended_at, finished_in, heard_of_cell, heard_of_instance, is_settled, rule_looks_for_in}
-use Rattle.bf_due.specs.inner.Stirring.{is_past_known_in, may_let_early_in, waits_for_in}
+use Rattle.bf_due.specs.inner.Stirring.{all_settled, decided_at, ended_at, finished_in, heard_of_cell, heard_of_instance, is_settled, rule_looks_for_in, is_past_known_in, may_let_early_in, waits_for_in}
 use Rattle.bf_due.proofs.Locality.{RulesAlike, Touches, seen_kept, touches?}
 use Rattle.bf_due.proofs.Reached.{settled_stays}
 

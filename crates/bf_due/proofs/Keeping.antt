@@ -17,7 +17,8 @@ use Rattle.bf_core.proofs.Shape.{open_run_exists}
 use Rattle.bf_due.specs.declared.agenda.Step.{Step}
 use Rattle.bf_due.specs.declared.agenda.Turn.{Turn}
 use Rattle.bf_due.specs.Steps.{ComesBefore, IsEarlier, IsNextStep, IsStep}
-use Rattle.bf_due.specs.Agendas.{Comes, TurnComes, event_of}
+use Rattle.bf_due.specs.Agendas.{event_of}
+use Rattle.bf_due.specs.inner.Agendas.{Comes, TurnComes}
 use Rattle.bf_due.specs.declared.cursors.Cursors.{Cursors}
 use Rattle.bf_due.specs.Cursors.{AreNoted}
 use Rattle.bf_due.specs.Dues.{HasAdded, IsRanked, IsUpToDate, Kept}

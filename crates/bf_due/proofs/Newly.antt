@@ -18,8 +18,7 @@ use Rattle.bf_due.specs.declared.agenda.Step.{Step}
 use Rattle.bf_due.specs.declared.agenda.Turn.{Turn}
 use Rattle.bf_due.specs.Agendas.{event_of}
 use Rattle.bf_due.specs.declared.news.News.{News}
-use Rattle.bf_due.specs.Stirring.{decided_at, ended_at, is_settled}
-use Rattle.bf_due.specs.inner.Stirring.{may_let_be_decided_in, may_let_early_in, waits_for_in}
+use Rattle.bf_due.specs.inner.Stirring.{decided_at, ended_at, is_settled, may_let_be_decided_in, may_let_early_in, waits_for_in}
 use Rattle.bf_due.specs.inner.Dues.{Concerns, Hears, IsBehindNews, IsBelowNews, newest}
 use Rattle.bf_due.proofs.Locality.{LooksAlike, PastTouched, RulesAlike, Touches, Turns, decidable_alike, goes_on_alike, past_kept, phase_kept, rules_alike, seen_kept, touches?, turns?, undecided_back, awaits_upstream}
 use Rattle.bf_due.proofs.Reached.{settled_stays}

@@ -23,7 +23,7 @@ use Rattle.bf_due.proofs.Locality.{awaits_upstream}
 use Rattle.bf_due.specs.declared.cursors.Cursors.{Cursors}
 use Rattle.bf_due.specs.Cursors.{AreFinished, ArePassed, AreNoted, HasFinished, IsFinished, IsNoted, has_early_rule_in, lets}
 use Rattle.bf_due.specs.inner.Cursors.{Awaits}
-use Rattle.bf_due.specs.Stirring.{all_settled, is_settled}
+use Rattle.bf_due.specs.inner.Stirring.{all_settled, is_settled}
 
 undecided_open : (c : Cell) → c ≡ Cell.Undecided → value_in c ≡ None
 undecided_open c e = ap value_in e

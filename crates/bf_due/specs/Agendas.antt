@@ -1,12 +1,10 @@
--- Steps as an agenda has them, and which comes first.
-use Rattle.std.specs.Prelude.{◌≡◌, ◌⊎◌, ℕ, ◌<◌, ◌≤◌, List}
+-- Steps as an agenda has them.
+use Rattle.std.specs.Prelude.{ℕ, List}
 use Rattle.std.specs.declared.cmp.Ordering.{Ordering}
 use Rattle.std.specs.declared.cmp.Reverse.{Reverse}
 use Rattle.bf_core.specs.declared.event.Event.{Event}
 use Rattle.bf_due.specs.contracts.agenda.StepOrd.TheImpl as by_step
-use Rattle.bf_due.specs.declared.agenda.Turn.{Turn}
 use Rattle.bf_due.specs.declared.agenda.Step.{Step}
-use Rattle.bf_due.specs.Steps.{kind_of}
 
 -- the steps, and how many there is room for
 pub record Steps : Type 0 where
@@ -23,17 +21,3 @@ event_of (Step.Close run) = Event.Close run
 event_of Step.Open = Event.Open
 event_of (Step.Settle turn) = Event.Settle turn.run turn.task
 event_of (Step.Expand turn) = Event.Expand turn.run turn.task
-
--- the turn comes before the other, or is it: by run, by rank and in the order of the file
-abbrev pub TurnComes : Turn → Turn → Type 0
-TurnComes turn other =
-    (turn.run < other.run) ⊎ ((turn.run ≡ other.run)
-    × ((turn.rank < other.rank) ⊎ ((turn.rank ≡ other.rank) × (turn.task ≤ other.task))))
-
--- the step comes before the other, or is it: by kind, and then as their turns do
-abbrev pub Comes : Step → Step → Type 0
-Comes (Step.Close run) (Step.Close other) = run ≤ other
-Comes Step.Open Step.Open = Unit {0}
-Comes (Step.Settle turn) (Step.Settle other) = TurnComes turn other
-Comes (Step.Expand turn) (Step.Expand other) = TurnComes turn other
-Comes step other = kind_of (event_of step) < kind_of (event_of other)

@@ -1,6 +1,5 @@
 pub mod Steps
 pub mod Agendas
 pub mod Cursors
-pub mod Stirring
 pub mod Dues
 pub mod inner

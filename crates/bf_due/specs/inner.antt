@@ -1,3 +1,4 @@
+pub mod Agendas
 pub mod Cursors
 pub mod Stirring
 pub mod Dues

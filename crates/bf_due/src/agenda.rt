@@ -1,7 +1,8 @@
 //! Steps, of which the first is at hand.
 ghost use Rattle.std.specs.Prelude.{◌≡◌, ◌≤◌, ◌+◌, [], ◌∷◌, length, slice_get, Contains, IfSome, IfNone, OnOk, OnSome};
 ghost use Rattle.std.specs.List.Sorted.{IsPermutation};
-ghost use Rattle.bf_due.specs.Agendas.{Comes, event_of};
+ghost use Rattle.bf_due.specs.Agendas.{event_of};
+ghost use Rattle.bf_due.specs.inner.Agendas.{Comes};
 ghost use Rattle.bf_due.specs.declared.agenda.Step.{Step};
 
 use bf_core::Event;
@@ -13,7 +14,7 @@ use std::marker::Model;
 
 /// A task in a run. Turns are ordered by run, by the task's rank, and then as the tasks stand in the file.
 #[derive(Clone, Copy, Debug, PartialEq, Eq, PartialOrd, Ord)]
-pub struct Turn {
+pub(crate) struct Turn {
     pub run: u32,
     pub rank: u32,
     pub task: u32,
@@ -21,7 +22,7 @@ pub struct Turn {
 
 /// An event that comes by itself. Steps are ordered by kind, as these variants are, and then by run or turn.
 #[derive(Clone, Copy, Debug, PartialEq, Eq, PartialOrd, Ord)]
-pub enum Step {
+pub(crate) enum Step {
     Close { run: u32 },
     Open,
     Settle(Turn),
@@ -30,7 +31,7 @@ pub enum Step {
 
 impl Step {
     /// The event of this step.
-    pub fn event(self) -> Event
+    pub(crate) fn event(self) -> Event
         ensures { result ≡ event_of self }
     {
         match self {
@@ -50,7 +51,7 @@ impl Step {
 
 /// A heap of steps with the first on top. A step may be there twice.
 #[derive(Drop)]
-pub struct Agenda {
+pub(crate) struct Agenda {
     heap: BinaryHeap<Reverse<Step>>,
 }
 
@@ -75,7 +76,7 @@ impl Model for Agenda {
 
 impl Agenda {
     /// An agenda without steps.
-    pub fn new(alloc: Global) -> Agenda
+    pub(crate) fn new(alloc: Global) -> Agenda
         ensures { result.items ≡ [] }
     {
         Agenda {
@@ -84,7 +85,7 @@ impl Agenda {
     }
 
     /// Makes room for so many steps more. The steps stay as they are, at `Err` too.
-    pub fn make_room(&mut self, steps: usize) -> Result<(), OutOfMemory>
+    pub(crate) fn make_room(&mut self, steps: usize) -> Result<(), OutOfMemory>
         ensures items { self.new.items ≡ self.old.items }
         ensures grown { self.old.room ≤ self.new.room }
         ensures room { OnOk result (length self.new.items + steps ≤ self.new.room) }
@@ -94,7 +95,7 @@ impl Agenda {
     }
 
     /// The first step; None where there is none.
-    pub fn first(&self) -> Option<Step>
+    pub(crate) fn first(&self) -> Option<Step>
         ensures top { result ≡ slice_get self.now.items 0 }
         ensures some { IfSome result (λ x. Contains self.now.items x) }
         ensures first { IfSome result (λ x. (y : Step) → Contains self.now.items y
@@ -107,7 +108,7 @@ impl Agenda {
     }
 
     /// Adds a step, for which there is room.
-    pub fn add(&mut self, step: Step)
+    pub(crate) fn add(&mut self, step: Step)
         requires { length self.old.items + 1 ≤ self.old.room }
         ensures gained { IsPermutation (step ∷ self.old.items) self.new.items }
         ensures len { length self.new.items ≡ length self.old.items + 1 }
@@ -120,7 +121,7 @@ impl Agenda {
     }
 
     /// Takes the first step out; None where there is none.
-    pub fn take_first(&mut self) -> Option<Step>
+    pub(crate) fn take_first(&mut self) -> Option<Step>
         ensures top { result ≡ slice_get self.old.items 0 }
         ensures lost { IfSome result (λ x. IsPermutation self.old.items (x ∷ self.new.items)) }
         ensures len { OnSome result (length self.new.items + 1 ≡ length self.old.items) }

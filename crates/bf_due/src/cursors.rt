@@ -7,7 +7,7 @@ ghost use Rattle.bf_core.specs.declared.event.Event.{Event};
 ghost use Rattle.bf_core.specs.declared.state.Cell.{Cell};
 ghost use Rattle.bf_due.specs.Cursors.{AreFinished, ArePassed, IsFinished, IsNoted, has_early_rule_in, lets};
 ghost use Rattle.bf_due.specs.inner.Cursors.{Awaits};
-ghost use Rattle.bf_due.specs.Stirring.{all_settled};
+ghost use Rattle.bf_due.specs.inner.Stirring.{all_settled};
 
 use bf_core::{Cell, Core, Instance, Phase};
 use bf_value::OutOfMemory;
@@ -15,7 +15,7 @@ use std::alloc::Global;
 
 /// How far a run is known to have come. Nothing is known of a task for which a list is too short.
 #[derive(Drop)]
-pub struct Cursors {
+pub(crate) struct Cursors {
     /// For each task, how many of its upstreams let it be decided, from the first on.
     pub passed: Vec<u32>,
     /// For each task, how many of its upstreams are settled, from the first on.
@@ -90,7 +90,7 @@ fn has_early_rule(core: &Core<'_>, task: u32) -> bool
 
 impl Cursors {
     /// Cursors of a run of which nothing is known, and in which nothing can be noted of any task. They take no memory.
-    pub fn unknown(alloc: Global) -> Cursors
+    pub(crate) fn unknown(alloc: Global) -> Cursors
         ensures { (b : Backfill) (k : ℕ) → IsNoted b k result }
     {
         Cursors {
@@ -102,7 +102,7 @@ impl Cursors {
     }
 
     /// Cursors of a run of `tasks` tasks, of which nothing is known yet.
-    pub fn new(alloc: Global, tasks: usize) -> Result<Cursors, OutOfMemory>
+    pub(crate) fn new(alloc: Global, tasks: usize) -> Result<Cursors, OutOfMemory>
         ensures { IfOk result (λ row. (b : Backfill) (k : ℕ) → IsNoted b k row) }
     {
         Ok(Cursors {
@@ -163,7 +163,7 @@ impl Cursors {
     }
 
     /// Whether a task is settled in a run. Moves the task's cursor past its first instances that have finished.
-    pub fn is_settled(&mut self, core: &Core<'_>, run: u32, task: u32) -> bool
+    pub(crate) fn is_settled(&mut self, core: &Core<'_>, run: u32, task: u32) -> bool
         ensures settled { IsNoted core.now run self.old → result
             ≡ is_some (value_in (cell_at core.now.state run task)) }
         ensures reached { IsNoted core.now run self.old → IsNoted core.now run self.new }
@@ -217,7 +217,7 @@ impl Cursors {
 
     /// False only where an upstream keeps a task from being decided in a run. Moves the task's cursor past its first
     /// upstreams that don't.
-    pub fn is_free_to_decide(&mut self, core: &Core<'_>, run: u32, task: u32) -> bool
+    pub(crate) fn is_free_to_decide(&mut self, core: &Core<'_>, run: u32, task: u32) -> bool
         requires { task < length core.now.dag.tasks }
         ensures awaits { IsNoted core.now run self.old → result ≡ false
             → ¬ (IsDecidable core.now.dag core.now.state run task) }
@@ -233,7 +233,7 @@ impl Cursors {
 
     /// False only where an upstream of a task isn't settled in a run. Moves the task's cursor past its first
     /// upstreams that are.
-    pub fn are_upstreams_settled(&mut self, core: &Core<'_>, run: u32, task: u32) -> bool
+    pub(crate) fn are_upstreams_settled(&mut self, core: &Core<'_>, run: u32, task: u32) -> bool
         requires { task < length core.now.dag.tasks }
         ensures unsettled { IsNoted core.now run self.old → result ≡ false
             → all_settled core.now.dag core.now.state run task ≡ false }
@@ -248,7 +248,7 @@ impl Cursors {
 
     /// False only where a task isn't settled, and so the run may not be closed. Moves the run's cursor past its first
     /// tasks that are settled.
-    pub fn is_run_settled(&mut self, core: &Core<'_>, run: u32) -> bool
+    pub(crate) fn is_run_settled(&mut self, core: &Core<'_>, run: u32) -> bool
         ensures unsettled { IsNoted core.now run self.old → result ≡ false
             → ¬ (MayCome core.now (Event.Close run)) }
         ensures reached { IsNoted core.now run self.old → IsNoted core.now run self.new }

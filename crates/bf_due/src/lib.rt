@@ -6,9 +6,8 @@
 //! - **An event** makes a step possible only where it touches what the step looks at: the tasks below the event's task, the
 //!   same task in the next run once this one is settled, the close of its run. Those alone are asked when it comes.
 //! - **Early rules** (`one_success`, `one_failed`, `one_done`, `always`) let a task be decided while upstreams are
-//!   unfinished. Such a task is asked only where what has just finished is what its rule looks for and its past is known,
-//!   where a branch says more, and once all of its upstreams are settled. So the core doesn't count all instances again at
-//!   each end.
+//!   unfinished. Such a task is asked only where its rule looks for what has just finished and its past is known, where a
+//!   branch says more, and once all of its upstreams are settled, so that no end counts all instances again.
 //! - **Cursors** say for which upstream a task waits, which instance hasn't finished, which task isn't settled. What they
 //!   have passed stays as it is, so each edge, instance and task is passed once a run, and the core is asked of a task once
 //!   no upstream is left.

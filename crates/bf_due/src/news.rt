@@ -1,7 +1,7 @@
 //! What has come of a task by an event, and which rules look for it.
 ghost use Rattle.std.specs.Prelude.{◌≡◌};
 ghost use Rattle.bf_core.specs.Cores.{IsThere};
-ghost use Rattle.bf_due.specs.Stirring.{decided_at, ended_at, finished_in, heard_of_cell, rule_looks_for_in};
+ghost use Rattle.bf_due.specs.inner.Stirring.{decided_at, ended_at, finished_in, heard_of_cell, rule_looks_for_in};
 
 use bf_core::{Cell, Core, Phase};
 use bf_rule::{Counts, Rule, is_rule_met};
@@ -10,7 +10,7 @@ use bf_value::JobName;
 
 /// What of a task in a run has finished by an event, counted by state.
 #[derive(Clone, Copy)]
-pub struct News {
+pub(crate) struct News {
     pub run: u32,
     pub task: u32,
     pub counts: Counts,
@@ -49,7 +49,7 @@ fn finished_counts_of_phase(phase: &Phase) -> Counts
 impl News {
     /// What has finished by the decision of a task in a run, which has come: the task, or nothing where it got
     /// instances.
-    pub fn of_decision(core: &Core<'_>, run: u32, task: u32) -> News
+    pub(crate) fn of_decision(core: &Core<'_>, run: u32, task: u32) -> News
         requires { IsThere core.now.dag core.now.state run task }
         ensures { result ≡ decided_at core.now.state run task }
     {
@@ -61,7 +61,7 @@ impl News {
     }
 
     /// What has finished by the end of a try, which has come: its instance, or nothing where the try is made again.
-    pub fn of_end(core: &Core<'_>, name: JobName) -> News
+    pub(crate) fn of_end(core: &Core<'_>, name: JobName) -> News
         ensures { result ≡ ended_at core.now.dag core.now.state name }
     {
         let counts = match core.instance(name) {
@@ -77,7 +77,7 @@ impl News {
 }
 
 /// Whether these counts alone meet a rule: it is met by them, but not by no instances at all.
-pub fn rule_looks_for(rule: Rule, counts: Counts) -> bool
+pub(crate) fn rule_looks_for(rule: Rule, counts: Counts) -> bool
     ensures { result ≡ rule_looks_for_in rule counts }
 {
     is_rule_met(rule, &counts) && !is_rule_met(rule, &Counts::NONE)

@@ -10,7 +10,7 @@ use Rattle.bf_cron.specs.Minutes.{IsMinute, minutes}
 use Rattle.bf_cron.specs.declared.spec.CronSpec.{CronSpec}
 use Rattle.bf_cron.proofs.Dates.{same_minute}
 use Rattle.bf_interval.specs.Fires.{IsFire}
-use Rattle.bf_interval.specs.Search.{Adds, FiresBetween, Collects, seconds}
+use Rattle.bf_interval.specs.inner.Search.{Adds, FiresBetween, Collects, seconds}
 
 wider : {spec : CronSpec} {zone : TimeZone} {low m more : ℕ} {n : ℤ} → m ≤ more → FiresBetween spec zone low m n → FiresBetween spec zone low more n
 wider up (fire, above, below) = (fire, above, omega arith)

@@ -5,7 +5,7 @@ use Rattle.jiff.specs.Types.{DateTime, TimeZone, Offset}
 use Rattle.jiff.specs.Words.{compatible_offset, ambiguous_at}
 use Rattle.bf_cron.specs.declared.spec.CronSpec.{CronSpec}
 use Rattle.bf_interval.specs.Fires.{IsFire}
-use Rattle.bf_interval.specs.Search.{seconds}
+use Rattle.bf_interval.specs.inner.Search.{seconds}
 
 -- the offset that the zone picks for a civil time
 abbrev pub picked_offset : TimeZone → DateTime → Offset

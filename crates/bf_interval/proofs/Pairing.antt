@@ -12,8 +12,7 @@ use Rattle.jiff.specs.Types.{TimeZone}
 use Rattle.bf_cron.specs.declared.spec.CronSpec.{CronSpec}
 use Rattle.bf_interval.specs.Fires.{IsFire, IsInterval}
 use Rattle.bf_interval.specs.Intervals.{ends, StartsIn, AreIntervals, HasIntervals, IsRange, IsAnswer}
-use Rattle.bf_interval.specs.Search.{seconds, AreFirst, AreEnough}
-use Rattle.bf_interval.specs.inner.Search.{ArePairs, IsPaired}
+use Rattle.bf_interval.specs.inner.Search.{seconds, AreFirst, AreEnough, ArePairs, IsPaired}
 use Rattle.bf_interval.specs.declared.interval.Interval.{Interval}
 use Rattle.bf_interval.specs.declared.fault.IntervalFault.{IntervalFault}
 use Rattle.bf_interval.specs.declared.fault.IntervalFault.TheVariants.{OutsideYears, RangeReversed, TooManyRuns, OutOfMemory}

@@ -7,7 +7,7 @@ use Rattle.std.proofs.lemmas.List.Sorted.{searched}
 use Rattle.std.proofs.lemmas.List.Edits.{get_or-insert_at, get_or-insert_below, get_or-insert_above, length-insert}
 use Rattle.std.proofs.lemmas.List.Kept.{AllPairs-from_increasing}
 use Rattle.std.proofs.lemmas.Bool.{cases_order, cases_lt, cases_eq}
-use Rattle.bf_interval.specs.Search.{Adds}
+use Rattle.bf_interval.specs.inner.Search.{Adds}
 
 -- all before the place are smaller, and all from there on are greater
 pub record IsPlace (xs : List ℕ) (x place : ℕ) : Type 0 where

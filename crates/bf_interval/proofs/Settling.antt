@@ -7,8 +7,7 @@ use Rattle.std.proofs.lemmas.List.{get_or_default}
 use Rattle.std.proofs.lemmas.Bool.{cases_lt, cases_eq}
 use Rattle.jiff.specs.Types.{TimeZone}
 use Rattle.bf_cron.specs.declared.spec.CronSpec.{CronSpec}
-use Rattle.bf_interval.specs.Search.{Collects, AreFirst, AreEnough}
-use Rattle.bf_interval.specs.inner.Search.{IsSettled}
+use Rattle.bf_interval.specs.inner.Search.{Collects, AreFirst, AreEnough, IsSettled}
 use Rattle.bf_interval.proofs.Margins.{from_low, before_day}
 use Rattle.bf_interval.proofs.Placing.{rises}
 

@@ -4,8 +4,7 @@ ghost use Rattle.std.specs.List.Sorted.{IsStrictlyIncreasing};
 ghost use Rattle.jiff.specs.Words.{picked_instant, plain_zone};
 ghost use Rattle.bf_cron.specs.Minutes.{IsMinute, minutes};
 ghost use Rattle.bf_cron.specs.inner.Minutes.{IsCivilMinute};
-ghost use Rattle.bf_interval.specs.Search.{seconds, Collects, AreFirst, AreEnough};
-ghost use Rattle.bf_interval.specs.inner.Search.{IsSettled};
+ghost use Rattle.bf_interval.specs.inner.Search.{seconds, Collects, AreFirst, AreEnough, IsSettled};
 
 use crate::listing::MOST_RUNS;
 use crate::rising::{insert_in_order, place_above};
@@ -142,7 +141,7 @@ fn settled_fire_count(found: &[u64], to: u64, day: u64) -> Option<usize>
 
 /// Finds the first fires from the second `from` on, in seconds since 1970 and in order: up to the first after `to`, or
 /// two more than `MOST_RUNS`, or all where there are fewer.
-pub fn first_fires(
+pub(crate) fn first_fires(
     alloc: Global,
     spec: &CronSpec,
     zone: &TimeZone<'_>,

@@ -2,8 +2,7 @@
 ghost use Rattle.std.specs.Prelude.{◌≡◌, ℕ, ◌≤◌, ◌↔◌, ◌≤ℤ◌, All};
 ghost use Rattle.std.specs.Result.{result_map_both};
 ghost use Rattle.jiff.specs.Words.{plain_zone};
-ghost use Rattle.bf_interval.specs.Search.{seconds};
-ghost use Rattle.bf_interval.specs.inner.Search.{IsPaired};
+ghost use Rattle.bf_interval.specs.inner.Search.{seconds, IsPaired};
 ghost use Rattle.bf_interval.specs.Intervals.{IsAnswer};
 ghost use Rattle.bf_interval.specs.Years.{IsInYears};
 

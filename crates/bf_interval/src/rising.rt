@@ -1,13 +1,13 @@
 //! Numbers that rise.
 ghost use Rattle.std.specs.Prelude.{◌≡◌, ℕ, ◌<◌, ◌≤◌, OnOk, OnErr, length, get_or};
 ghost use Rattle.std.specs.List.Sorted.{IsStrictlyIncreasing};
-ghost use Rattle.bf_interval.specs.Search.{Adds};
+ghost use Rattle.bf_interval.specs.inner.Search.{Adds};
 
 use std::alloc::AllocError;
 
 /// Inserts a number among rising ones, in order; does nothing where it is one of them already. At an Err they stay as
 /// they were.
-pub fn insert_in_order(numbers: &mut Vec<u64>, number: u64) -> Result<(), AllocError>
+pub(crate) fn insert_in_order(numbers: &mut Vec<u64>, number: u64) -> Result<(), AllocError>
     requires { IsStrictlyIncreasing numbers.old.items }
     ensures rising { IsStrictlyIncreasing numbers.new.items }
     ensures ok { OnOk result (Adds number numbers.old.items numbers.new.items) }
@@ -23,7 +23,7 @@ pub fn insert_in_order(numbers: &mut Vec<u64>, number: u64) -> Result<(), AllocE
 }
 
 /// Gives the index of the first of these rising numbers above `limit`; their count where there is none.
-pub fn place_above(numbers: &[u64], limit: u64) -> usize
+pub(crate) fn place_above(numbers: &[u64], limit: u64) -> usize
     requires { IsStrictlyIncreasing numbers.now }
     ensures within { result ≤ length numbers.now }
     ensures below { (i : ℕ) → i < result → get_or numbers.now i 0 ≤ limit }

@@ -12,7 +12,7 @@ pub fn texts_are_read_back()
 
 /// A law: what a page has of a text has no `<`, so that it begins no tag, and no carriage return or U+0000, which a
 /// browser would change.
-pub fn no_text_has_a_tag()
+pub fn texts_begin_no_tag()
     ensures { (text : List ℕ) → All IsTame (safe text) }
 {}
 

@@ -14,7 +14,7 @@ mod sending;
 
 pub use counted::can_be_counted;
 pub use laws::{
-    all_tags_are_fixed, cells_stand_as_they_are, no_text_has_a_tag, pages_differ_where_texts_do,
-    texts_are_read_back,
+    all_tags_are_fixed, cells_stand_as_they_are, pages_differ_where_texts_do, texts_are_read_back,
+    texts_begin_no_tag,
 };
 pub use page::{PageTexts, write_page};

@@ -11,7 +11,7 @@ use std::test::Fail;
 
 /// How a try ends.
 #[derive(Clone, Copy)]
-pub enum End {
+pub(crate) enum End {
     /// It succeeds, and pushes nothing.
     Succeeds,
     Pushes(i64),
@@ -23,7 +23,7 @@ pub enum End {
 /// An event in short: `Settle` and `Expand` name run and task; `Begin` and `End` name task, map index and try, in the
 /// first run; `Close` names the run, `Tick` the moment.
 #[derive(Clone, Copy)]
-pub enum TestStep {
+pub(crate) enum TestStep {
     Open,
     Settle(u32, u32),
     Expand(u32, u32),
@@ -34,10 +34,10 @@ pub enum TestStep {
 }
 
 /// A step, and what the core must answer to it.
-pub type Answered = (TestStep, Result<(), Illegal>);
+pub(crate) type Answered = (TestStep, Result<(), Illegal>);
 
 /// Makes a list of these numbers.
-pub fn list_of(alloc: Global, numbers: &[i64]) -> Result<Xval, OutOfMemory> {
+pub(crate) fn list_of(alloc: Global, numbers: &[i64]) -> Result<Xval, OutOfMemory> {
     let mut items = Vec::new(alloc);
     for number in numbers {
         items.push(Xval::Int(*number))?;
@@ -78,7 +78,7 @@ fn event_of(alloc: Global, step: TestStep) -> Result<Event, OutOfMemory> {
 }
 
 /// Lets the steps come to the core in order, and checks what it answers to each.
-pub fn take(
+pub(crate) fn take(
     rt: &impl Abort,
     alloc: Global,
     core: &mut Core<'_>,
@@ -92,13 +92,13 @@ pub fn take(
 }
 
 /// Makes the core of a plan's backfill of one run, before its first event.
-pub fn core_of<'a>(alloc: Global, plan: &'a Plan) -> Result<Core<'a>, Fail> {
+pub(crate) fn core_of<'a>(alloc: Global, plan: &'a Plan) -> Result<Core<'a>, Fail> {
     let runs = epoch_run(alloc)?;
     Ok(Core::new(alloc, plan, &runs)?)
 }
 
 /// Makes the core of a plan's backfill of one run, after these steps.
-pub fn core_after<'a>(
+pub(crate) fn core_after<'a>(
     rt: &impl Abort,
     alloc: Global,
     plan: &'a Plan,
@@ -116,7 +116,12 @@ fn walk_over(rt: &impl Abort, alloc: Global, plan: &Plan, steps: &[Answered]) ->
 }
 
 /// Takes these steps from the start of a graph's backfill of one run, and checks the answer to each.
-pub fn walk(rt: &impl Abort, alloc: Global, graph: &str, steps: &[Answered]) -> Result<(), Fail> {
+pub(crate) fn walk(
+    rt: &impl Abort,
+    alloc: Global,
+    graph: &str,
+    steps: &[Answered],
+) -> Result<(), Fail> {
     let plan = plan_of(alloc, graph)?;
     walk_over(rt, alloc, &plan, steps)
 }

@@ -6,7 +6,7 @@ use rand_pcg::Pcg32;
 
 /// A source of numbers by chance that are the same at each run of the tests.
 #[derive(Drop)]
-pub struct Chance {
+pub(crate) struct Chance {
     generator: Pcg32,
 }
 
@@ -19,7 +19,7 @@ impl Chance {
     }
 
     /// Gives a number below `bound`.
-    pub fn below(&mut self, bound: u32) -> u32
+    pub(crate) fn below(&mut self, bound: u32) -> u32
         requires { 0 < bound }
         ensures { result < bound }
     {
@@ -27,7 +27,7 @@ impl Chance {
     }
 
     /// Answers true once in `bound` calls, on the average.
-    pub fn is_one_in(&mut self, bound: u32) -> bool
+    pub(crate) fn is_one_in(&mut self, bound: u32) -> bool
         requires { 0 < bound }
     {
         self.below(bound) == 0

@@ -5,7 +5,7 @@ use bf_value::OutOfMemory;
 use std::alloc::Global;
 
 /// How many tasks each graph has: a source of items, a branch, two expanded tasks, and others behind them.
-pub const TASKS: u32 = 9;
+pub(crate) const TASKS: u32 = 9;
 
 /// The rules for tasks that aren't expanded.
 const RULES: [&str; 11] = [
@@ -81,7 +81,7 @@ fn push_task(text: &mut String, chance: &mut Chance, task: u32) -> Result<(), Ou
 }
 
 /// Makes a graph file by chance.
-pub fn graph_of(alloc: Global, chance: &mut Chance) -> Result<String, OutOfMemory> {
+pub(crate) fn graph_of(alloc: Global, chance: &mut Chance) -> Result<String, OutOfMemory> {
     let runs = 1 + chance.below(3);
     let mut text = format!(in alloc;
         "{{\"dag_id\":\"d\",\"schedule\":\"@daily\",\"max_active_runs\":{runs},\"pools\":{{\"p\":3}},\"tasks\":["

@@ -17,7 +17,7 @@ fn told(alloc: Global, step: Option<Event>) -> Result<String, OutOfMemory> {
 }
 
 /// Checks that the next step, try and moment are those that a look at the whole backfill finds.
-pub fn compare(rt: &impl Abort, alloc: Global, ready: &Ready<'_>) -> Result<(), Fail> {
+pub(crate) fn compare(rt: &impl Abort, alloc: Global, ready: &Ready<'_>) -> Result<(), Fail> {
     let core = ready.core();
     let plan = core.plan();
     let order = plan.graph().by_rank(alloc)?;

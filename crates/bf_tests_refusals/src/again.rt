@@ -15,7 +15,7 @@ use thiserror::Error;
 
 /// Why a backfill whose requests for memory were refused didn't come to its right end.
 #[derive(Clone, Copy, Debug, PartialEq, Eq, Error)]
-pub enum RefusalFault {
+pub(crate) enum RefusalFault {
     #[error("a call found no memory twice")]
     Twice,
     #[error("a refused call has changed the backfill")]
@@ -55,7 +55,7 @@ fn is_still(scheduler: &Scheduler<'_>, before: Seen) -> Result<(), RefusalFault>
 }
 
 /// Makes the plan of a graph, a second time where that finds no memory; `Twice` where the second fails too.
-pub fn plan_again(alloc: Global, graph: GraphCase) -> Result<Plan, RefusalFault> {
+pub(crate) fn plan_again(alloc: Global, graph: GraphCase) -> Result<Plan, RefusalFault> {
     if let Ok(plan) = plan_of(alloc, graph.file()) {
         return Ok(plan);
     }
@@ -63,7 +63,7 @@ pub fn plan_again(alloc: Global, graph: GraphCase) -> Result<Plan, RefusalFault>
 }
 
 /// Makes the runs of so many days, a second time where that finds no memory; `Twice` where the second fails too.
-pub fn runs_again(alloc: Global, days: u32) -> Result<Runs, RefusalFault> {
+pub(crate) fn runs_again(alloc: Global, days: u32) -> Result<Runs, RefusalFault> {
     if let Some(runs) = daily_runs(alloc, days) {
         return Ok(runs);
     }
@@ -78,7 +78,7 @@ fn scheduler<'a>(alloc: Global, plan: &'a Plan, runs: &Runs) -> Result<Scheduler
 
 /// Makes the scheduler of a backfill by one worker, a second time where that finds no memory; `Twice` where the second
 /// fails too.
-pub fn scheduler_again<'a>(
+pub(crate) fn scheduler_again<'a>(
     alloc: Global,
     plan: &'a Plan,
     runs: &Runs,
@@ -91,7 +91,7 @@ pub fn scheduler_again<'a>(
 
 /// Gives what comes next, and asks a second time where the scheduler found no memory. `Changed` where the refused call
 /// changed the backfill, `Twice` where the second fails too.
-pub fn next_again(scheduler: &mut Scheduler<'_>) -> Result<Next, RefusalFault> {
+pub(crate) fn next_again(scheduler: &mut Scheduler<'_>) -> Result<Next, RefusalFault> {
     let before = see(scheduler);
     if let Ok(next) = scheduler.next() {
         return Ok(next);
@@ -102,7 +102,7 @@ pub fn next_again(scheduler: &mut Scheduler<'_>) -> Result<Next, RefusalFault> {
 
 /// Lets the clock come to a moment and gives what the scheduler answers, a second time where that finds no memory.
 /// `Changed` where the refused call changed the backfill, `Twice` where the second fails too.
-pub fn tick_again(scheduler: &mut Scheduler<'_>, moment: i64) -> Result<bool, RefusalFault> {
+pub(crate) fn tick_again(scheduler: &mut Scheduler<'_>, moment: i64) -> Result<bool, RefusalFault> {
     let before = see(scheduler);
     if let Ok(came) = scheduler.tick(moment) {
         return Ok(came);
@@ -127,7 +127,7 @@ fn may_come_again(
 
 /// Ends a try, a second time where that finds no memory. `Stopped` where it is refused for another cause, `Changed`
 /// where the refused call changed the backfill, `Twice` where the second fails too.
-pub fn finish_again(scheduler: &mut Scheduler<'_>, done: Done) -> Result<(), RefusalFault> {
+pub(crate) fn finish_again(scheduler: &mut Scheduler<'_>, done: Done) -> Result<(), RefusalFault> {
     let before = see(scheduler);
     let Err((done, fault)) = scheduler.finish(done) else {
         return Ok(());
@@ -137,7 +137,11 @@ pub fn finish_again(scheduler: &mut Scheduler<'_>, done: Done) -> Result<(), Ref
 }
 
 /// Makes the answer of a try, a second time where that finds no memory; `Twice` where the second fails too.
-pub fn raw_again(alloc: Global, graph: GraphCase, name: JobName) -> Result<Raw, RefusalFault> {
+pub(crate) fn raw_again(
+    alloc: Global,
+    graph: GraphCase,
+    name: JobName,
+) -> Result<Raw, RefusalFault> {
     if let Ok(raw) = graph.raw(alloc, name) {
         return Ok(raw);
     }

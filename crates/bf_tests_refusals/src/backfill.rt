@@ -71,7 +71,7 @@ fn ended_of<'p>(
 }
 
 /// Runs the backfill of a plan over so many days to its end, and then replays its journal on new cores.
-pub fn backfill<'p>(
+pub(crate) fn backfill<'p>(
     alloc: Global,
     graph: GraphCase,
     plan: &'p Plan,

@@ -5,7 +5,7 @@ use std::alloc::Global;
 
 /// A graph, with what its tries answer.
 #[derive(Clone, Copy, Debug, PartialEq, Eq)]
-pub enum GraphCase {
+pub(crate) enum GraphCase {
     /// Has a retry that waits, a dependence on the past, an expansion, a pool and a rule that decides early.
     Delayed,
     /// Has a task expanded over a list, of whose instances one fails, and a task expanded over what those pushed.

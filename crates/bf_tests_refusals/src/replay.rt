@@ -109,7 +109,7 @@ fn replay_to<'a>(
 }
 
 /// Lets each event of a journal come to two new cores; `Stopped` where the backfill hasn't ended then.
-pub fn replay(
+pub(crate) fn replay(
     alloc: Global,
     plan: &Plan,
     runs: &Runs,

@@ -90,7 +90,7 @@ fn are_same_entries(one: &Core<'_>, other: &Core<'_>, journal: &[Event]) -> bool
 
 /// Answers whether two cores of one plan have the same state, the same events behind them, and the same in their
 /// ledgers of each try that ends in this journal.
-pub fn is_same_core(one: &Core<'_>, other: &Core<'_>, journal: &[Event]) -> bool {
+pub(crate) fn is_same_core(one: &Core<'_>, other: &Core<'_>, journal: &[Event]) -> bool {
     one.opened_runs() == other.opened_runs()
         && one.is_ended() == other.is_ended()
         && are_same_events(one.journal(), other.journal())

@@ -35,6 +35,6 @@ fn show_event(rt: &HostRuntime, event: &Event) -> io::Result<()> {
 }
 
 /// Prints events, a line each, up to the first that can't be printed; false where there is one.
-pub fn show(rt: &HostRuntime, events: &[Event]) -> bool {
+pub(crate) fn show(rt: &HostRuntime, events: &[Event]) -> bool {
     events.iter().all(|event| show_event(rt, event).is_ok())
 }

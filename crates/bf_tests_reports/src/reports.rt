@@ -6,13 +6,13 @@ use std::alloc::Global;
 use std::test::Fail;
 
 /// One run, which ends where it starts.
-pub const ONE: &str = "@backfill 1 d\n\
+pub(crate) const ONE: &str = "@backfill 1 d\n\
     @run 2024-01-01T00:00:00Z 2024-01-01T00:00:00Z success\n\
     a -1 success 1 -\n\
     @end 1\n";
 
 /// Three runs of five tasks, with every state and every kind of value.
-pub const FULL: &str = "@backfill 1 full-graph_1.0\n\
+pub(crate) const FULL: &str = "@backfill 1 full-graph_1.0\n\
     @run 1970-01-01T00:00:00Z 1970-01-01T00:00:00Z failed\n\
     src -1 success 101 [3,1,[2,null,true,\"a b\"]]\n\
     m 0 success 1 3\n\
@@ -73,7 +73,7 @@ const GIVEN: &str = "@backfill 2 d\n\
     @end 2\n";
 
 /// Reads the report of a text.
-pub fn report_of(alloc: Global, text: &str) -> Result<Report, Fail> {
+pub(crate) fn report_of(alloc: Global, text: &str) -> Result<Report, Fail> {
     let mut device = Bytes::new(text.as_bytes().to_vec(alloc)?);
     Ok(read_report(alloc, &mut device)?)
 }

@@ -15,7 +15,7 @@ use std::thread::Threads;
 
 /// What came of a backfill: the states of its runs, and its tries in the order in which they began.
 #[derive(Drop)]
-pub struct Told {
+pub(crate) struct Told {
     pub run_states: Vec<RunState>,
     pub begun: Vec<JobName>,
 }
@@ -41,7 +41,7 @@ fn told_of(
 
 /// Runs a graph's backfill of one run by so many workers, and gives what came of it, or the fault that stopped it. The
 /// clock jumps to each moment that a try waits for.
-pub fn backfill<W: Threads + Wait + Sync, R: TaskRunner + Sync>(
+pub(crate) fn backfill<W: Threads + Wait + Sync, R: TaskRunner + Sync>(
     rt: &W,
     alloc: Global,
     graph: &str,
@@ -60,7 +60,7 @@ pub fn backfill<W: Threads + Wait + Sync, R: TaskRunner + Sync>(
 }
 
 /// Runs a graph's backfill of one run in the calling thread, and gives what came of it, or the fault that stopped it.
-pub fn alone<R: TaskRunner>(
+pub(crate) fn alone<R: TaskRunner>(
     alloc: Global,
     graph: &str,
     runner: &R,

@@ -12,8 +12,7 @@ use Rattle.bf_due.specs.declared.news.News.{News}
 use Rattle.bf_due.specs.declared.cursors.Cursors.{Cursors}
 use Rattle.bf_due.specs.Cursors.{AreNoted, IsNoted}
 use Rattle.bf_due.specs.Agendas.{event_of}
-use Rattle.bf_due.specs.Stirring.{decided_at, ended_at, is_settled}
-use Rattle.bf_due.specs.inner.Stirring.{may_let_be_decided_in}
+use Rattle.bf_due.specs.inner.Stirring.{decided_at, ended_at, is_settled, may_let_be_decided_in}
 use Rattle.bf_due.specs.Dues.{HasAdded}
 
 -- ---- what an event may make possible

@@ -4,7 +4,7 @@ use Rattle.bf_dependents.specs.declared.place.Place.{Place}
 use Rattle.bf_dependents.specs.Dependents.{AreDependents}
 use Rattle.bf_clear.specs.inner.Entries.{IsWithin}
 use Rattle.bf_clear.specs.Keeping.{AreKept, Clearance, kept_in}
-use Rattle.bf_clear.proofs.Lookups.{kept_told}
+use Rattle.bf_clear.proofs.LookupFacts.{kept_told}
 use Rattle.bf_clear.proofs.clearing.clear_places_within.Goals as goal
 
 pub returns-clause-kept : goal.returns-clause-kept

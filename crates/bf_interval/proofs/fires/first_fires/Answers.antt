@@ -1,7 +1,6 @@
 use Rattle.std.proofs.Common.{◌≡◌, ◌∙◌, sym, arith, ℕ, ◌+◌, ◌*◌, ◌/◌, subst, List}
 use Rattle.jiff.specs.Words.{plain_zone}
-use Rattle.bf_interval.specs.Search.{Collects}
-use Rattle.bf_interval.specs.inner.Search.{IsSettled}
+use Rattle.bf_interval.specs.inner.Search.{Collects, IsSettled}
 use Rattle.bf_interval.proofs.Collecting.{collects_skip}
 use Rattle.bf_interval.proofs.Skipping.{date_skipped}
 use Rattle.bf_interval.proofs.Settling.{first_settled, enough_settled, first_whole, enough_whole}

@@ -1,7 +1,7 @@
 use Rattle.std.proofs.Common.{◌*◌, ◌/◌}
 use Rattle.std.specs.List.Sorted.{IsStrictlyIncreasing}
 use Rattle.jiff.specs.Words.{plain_zone}
-use Rattle.bf_interval.specs.Search.{Collects}
+use Rattle.bf_interval.specs.inner.Search.{Collects}
 use Rattle.bf_interval.proofs.fires.first_fires.Given as goal
 
 abbrev pub invariant-loop-day : goal.invariant-loop-day

@@ -1,6 +1,6 @@
 use Rattle.std.proofs.Common.{◌≡◌, ℕ, ◌+◌, ◌*◌, subst, sym, ◌∙◌, arith}
 use Rattle.jiff.specs.Words.{plain_zone}
-use Rattle.bf_interval.specs.Search.{Collects}
+use Rattle.bf_interval.specs.inner.Search.{Collects}
 use Rattle.bf_interval.proofs.Collecting.{collects_skip}
 use Rattle.bf_interval.proofs.Skipping.{hour_skipped}
 use Rattle.bf_interval.proofs.fires.push_fires_of_day.Goals as goal

@@ -1,7 +1,7 @@
 use Rattle.std.proofs.Common.{ℕ, ◌*◌, ◌≤◌}
 use Rattle.std.specs.List.Sorted.{IsStrictlyIncreasing}
 use Rattle.jiff.specs.Words.{plain_zone}
-use Rattle.bf_interval.specs.Search.{Collects}
+use Rattle.bf_interval.specs.inner.Search.{Collects}
 use Rattle.bf_interval.proofs.fires.push_fires_of_day.Given as goal
 
 abbrev pub invariant-loop-hour : goal.invariant-loop-hour

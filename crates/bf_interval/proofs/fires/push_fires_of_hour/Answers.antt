@@ -1,6 +1,6 @@
 use Rattle.std.proofs.Common.{◌≡◌, ℕ, ◌+◌, ◌*◌, subst, arith}
 use Rattle.jiff.specs.Words.{plain_zone}
-use Rattle.bf_interval.specs.Search.{Collects}
+use Rattle.bf_interval.specs.inner.Search.{Collects}
 use Rattle.bf_interval.proofs.fires.push_fires_of_hour.Goals as goal
 
 pub returns-clause-ok : goal.returns-clause-ok

@@ -3,7 +3,7 @@ use Rattle.std.proofs.lemmas.Int.{ints}
 use Rattle.std.specs.Ordering.{MatchOrdering}
 use Rattle.std.specs.Cmp.{int_ranks}
 use Rattle.jiff.specs.Words.{plain_zone}
-use Rattle.bf_interval.specs.Search.{AreFirst, AreEnough}
+use Rattle.bf_interval.specs.inner.Search.{AreFirst, AreEnough}
 use Rattle.bf_interval.proofs.Pairing.{answered, bounded}
 use Rattle.bf_interval.proofs.listing.intervals.Goals as goal
 

@@ -1,7 +1,7 @@
 use Rattle.std.proofs.Common.{◌≡◌, ◌∙◌, ◌+◌, ◌-◌, ap, arith, drop, length, get_or}
 use Rattle.std.proofs.lemmas.List.{get_or-take}
 use Rattle.std.proofs.lemmas.Grind.{get_or_after_one}
-use Rattle.bf_interval.specs.Search.{seconds}
+use Rattle.bf_interval.specs.inner.Search.{seconds}
 use Rattle.bf_interval.proofs.Pairing.{pairs_push, length_push}
 use Rattle.bf_interval.proofs.listing.intervals_between_fires.Goals as goal
 

@@ -1,4 +1,4 @@
-//! Looking things up by run and task.
+//! Look-ups by run and task.
 ghost use Rattle.std.specs.Prelude.{◌≡◌, option_copied};
 ghost use Rattle.bf_clear.specs.Entries.{found_at, instance_in, report_at};
 

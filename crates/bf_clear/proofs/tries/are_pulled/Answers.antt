@@ -1,7 +1,7 @@
 use Rattle.std.proofs.Common.{refl, arith}
 use Rattle.std.proofs.lemmas.List.{same_lists, length-map}
 use Rattle.bf_report.specs.declared.report.Pull.{Pull}
-use Rattle.bf_clear.proofs.telling.are_pulled.Goals as goal
+use Rattle.bf_clear.proofs.tries.are_pulled.Goals as goal
 
 pub returns : goal.returns
 returns c =

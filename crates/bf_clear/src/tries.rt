@@ -1,4 +1,4 @@
-//! What a report tells of a try.
+//! Tries as a report tells them.
 ghost use Rattle.std.specs.Prelude.{◌≡◌, ◌<◌, ◌↔◌, length, map, Some, IsTrue, IfOk};
 ghost use Rattle.bf_clear.specs.Entries.{given_by, given_in, outcome_of_try_in, given_by_values_in};
 ghost use Rattle.bf_clear.specs.inner.Keeping.{fit_outcome, IsAnswerOf, IsRawFor};
