@@ -5,7 +5,7 @@ ghost use Rattle.std.specs.FinMap;
 ghost use Rattle.bf_core.specs.Clocks.{IsTimely, after_end, last_moment};
 ghost use Rattle.bf_core.specs.Terms.{Event};
 
-use bf_try::{Entry, Ledger, NoteFault};
+use bf_try::{EndedTries, Entry};
 use bf_value::{JobName, OutOfMemory};
 use std::alloc::Global;
 use std::collections::BTreeMap;
@@ -154,7 +154,7 @@ pub(crate) struct Retry {
 /// if that is made. `Err` changes neither.
 pub(crate) fn note_end(
     clock: &mut Clock,
-    ledger: &mut Ledger,
+    ledger: &mut EndedTries,
     name: JobName,
     entry: Entry,
     retry: Retry,
@@ -172,8 +172,7 @@ pub(crate) fn note_end(
     clock.delay_retry(retry)?;
     match ledger.note(name, entry) {
         Ok(()) => Ok(()),
-        Err((_, NoteFault::AlreadyRecorded)) => unreachable!(),
-        Err((_, NoteFault::OutOfMemory)) => {
+        Err(OutOfMemory) => {
             clock.moments.forget(retry.next);
             Err(OutOfMemory)
         }

@@ -16,7 +16,7 @@ use crate::state::{Change, RunPhase, State, is_closable, is_retried, unopened_ru
 use bf_plan::{Dag, Demand, Plan};
 use bf_pool::{NoRoom, Pools};
 use bf_runs::RunCount;
-use bf_try::{Entry, Ledger, Outcome, fits};
+use bf_try::{EndedTries, Entry, Outcome, fits};
 use bf_value::{JobName, OutOfMemory};
 use bf_xcom::{RunState, SharedGiven};
 use std::alloc::Global;
@@ -102,7 +102,7 @@ impl<'a> Core<'a> {
             pools,
             state: State {
                 runs: cells,
-                ledger: Ledger::new(alloc),
+                ledger: EndedTries::new(alloc),
             },
             clock: Clock {
                 time: 0,

@@ -16,7 +16,7 @@ use crate::names::{Unfinished, instance_at, place_of, unfinished_instance};
 use crate::state::{Cell, Instance, is_closable};
 use crate::upstreams::is_settled;
 use bf_plan::Plan;
-use bf_try::Ledger;
+use bf_try::EndedTries;
 use bf_value::JobName;
 
 impl<'a> Core<'a> {
@@ -46,7 +46,7 @@ impl<'a> Core<'a> {
     }
 
     /// The tries that have ended.
-    pub fn ledger(&self) -> &Ledger
+    pub fn ledger(&self) -> &EndedTries
         ensures { result.now ≡ self.now.state.ledger }
     {
         &self.state.ledger

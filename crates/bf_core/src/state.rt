@@ -10,7 +10,7 @@ ghost use Rattle.bf_core.specs.inner.Words.{is_finished};
 ghost use Rattle.bf_core.specs.inner.Tries.{changed, IsCountable};
 
 use bf_rule::Counts;
-use bf_try::{Ledger, Outcome};
+use bf_try::{EndedTries, Outcome};
 use bf_value::{OutOfMemory, Sequence};
 use bf_xcom::SharedGiven;
 use std::alloc::Global;
@@ -275,7 +275,7 @@ pub(crate) fn unopened_runs(
 #[derive(Drop)]
 pub struct State {
     pub runs: Sequence<Run>,
-    pub ledger: Ledger,
+    pub ledger: EndedTries,
 }
 
 impl State {

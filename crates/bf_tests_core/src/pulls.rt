@@ -29,8 +29,9 @@ fn are_same(noted: &[SharedValue], pulled: &[Option<Xval>]) -> bool {
 
 /// Checks what the ledger says that this try, which has ended, was given of its task's pulls.
 fn is_noted(rt: &impl Abort, core: &Core<'_>, name: JobName, pulled: &[Option<Xval>]) {
-    match core.ledger().get(name) {
-        Some(entry) => assert!(rt; are_same(entry.given.pulled(), pulled)),
+    let tried = core.ledger().entries().iter().find(|tried| tried.0 == name);
+    match tried {
+        Some((_, entry)) => assert!(rt; are_same(entry.given.pulled(), pulled)),
         None => assert!(rt; false, "the try has not ended"),
     }
 }

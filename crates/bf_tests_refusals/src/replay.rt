@@ -31,7 +31,7 @@ struct Cores<'a, 'b> {
 impl<'a, 'b> Cores<'a, 'b> {
     /// Answers whether both cores look the same.
     fn are_level(&self) -> bool {
-        is_same_core(self.core, self.behind, self.journal)
+        is_same_core(self.core, self.behind)
     }
 
     /// Lets an event come to `core`, a second time where that finds no memory. `Changed` where the refused call changed

@@ -1,6 +1,7 @@
 //! Whether two cores have come to the same.
 use bf_core::{Cell, Core, Event, Instance, Phase};
 use bf_try::Entry;
+use bf_value::JobName;
 
 fn is_same_phase(one: &Phase, other: &Phase) -> bool {
     match (one, other) {
@@ -70,30 +71,26 @@ fn are_same_events(one: &[Event], other: &[Event]) -> bool {
             .all(|(one, other)| is_same_event(one, other))
 }
 
-fn is_same_entry(one: Option<&Entry>, other: Option<&Entry>) -> bool {
-    match (one, other) {
-        (None, None) => true,
-        (Some(one), Some(other)) => {
-            one.given.is_same(&other.given) && one.outcome.is_same(&other.outcome)
-        }
-        _ => false,
-    }
+fn is_same_try(one: &(JobName, Entry), other: &(JobName, Entry)) -> bool {
+    one.0 == other.0
+        && one.1.given.is_same(&other.1.given)
+        && one.1.outcome.is_same(&other.1.outcome)
 }
 
-/// Answers whether both ledgers hold the same of each try that ends in this journal.
-fn are_same_entries(one: &Core<'_>, other: &Core<'_>, journal: &[Event]) -> bool {
-    journal.iter().all(|event| match event {
-        Event::End(name, _) => { is_same_entry(one.ledger().get(*name), other.ledger().get(*name)) }
-        _ => true,
-    })
+fn are_same_tries(one: &[(JobName, Entry)], other: &[(JobName, Entry)]) -> bool {
+    one.len() == other.len()
+        && one
+            .iter()
+            .zip(other)
+            .all(|(one, other)| is_same_try(one, other))
 }
 
-/// Answers whether two cores of one plan have the same state, the same events behind them, and the same in their
-/// ledgers of each try that ends in this journal.
-pub(crate) fn is_same_core(one: &Core<'_>, other: &Core<'_>, journal: &[Event]) -> bool {
+/// Answers whether two cores of one plan have the same state, the same events behind them, and the same ledger in the
+/// same order.
+pub(crate) fn is_same_core(one: &Core<'_>, other: &Core<'_>) -> bool {
     one.opened_runs() == other.opened_runs()
         && one.is_ended() == other.is_ended()
         && are_same_events(one.journal(), other.journal())
         && are_same_cells(one, other)
-        && are_same_entries(one, other, journal)
+        && are_same_tries(one.ledger().entries(), other.ledger().entries())
 }

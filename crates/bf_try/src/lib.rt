@@ -6,6 +6,7 @@
 #![tactic(auto)]
 
 mod answers;
+mod ended;
 mod grading;
 mod ledger;
 mod runner;
@@ -13,6 +14,7 @@ mod tickets;
 
 pub use answers::{Exit, Line, Raw, copy_of_bytes};
 pub use bf_xcom::Outcome;
+pub use ended::EndedTries;
 pub use grading::{
     LONGEST_VALUE, MOST_ITEMS, answer_for, each_fit_is_a_grade, fits, grade, grades_fit,
 };
