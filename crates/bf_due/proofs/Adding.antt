@@ -1,5 +1,5 @@
 -- Adding steps to an agenda, of several kinds in turn.
-use Rattle.std.proofs.Common.{◌≡◌, ◌⊎◌, ℕ, zero, suc, ◌+◌, ◌<◌, ◌≤◌, Bool, true, false, List, [], ◌∷◌, length, get_or, slice_set, Some, Contains, refl, sym, ap, ◌∙◌, subst, subst₂, inl, inr, arith}
+use Rattle.std.proofs.Common.{◌≡◌, ◌⊎◌, ℕ, zero, suc, ◌+◌, ◌<◌, ◌≤◌, Bool, true, false, List, [], ◌∷◌, length, get_or, slice_set, Some, is_some, Contains, refl, sym, ap, ◌∙◌, subst, subst₂, inl, inr, arith}
 use Rattle.std.proofs.lemmas.Bool.{both_ways}
 use Rattle.std.specs.List.Sorted.{IsPermutation, IsStrictlyIncreasing}
 use Rattle.bf_graph.specs.Edges.{IsRank, IsUpstream}
@@ -7,10 +7,10 @@ use Rattle.bf_graph.specs.Lookups.{IsRisingListOf}
 use Rattle.bf_graph.proofs.PathLemmas.{task_within}
 use Rattle.bf_plan.specs.Plans.{shape_of}
 use Rattle.bf_pool.proofs.WeightFacts.{tasks_there}
-use Rattle.bf_core.specs.Terms.{Dag}
+use Rattle.bf_core.specs.Terms.{Dag, task_of}
 use Rattle.bf_core.specs.declared.event.Event.{Event}
 use Rattle.bf_core.specs.declared.state.State.{State}
-use Rattle.bf_core.specs.Events.{IsDecidable}
+use Rattle.bf_core.specs.Events.{IsDecidable, goes_on_in}
 use Rattle.bf_core.specs.Cores.{Backfill, MayCome}
 use Rattle.bf_core.proofs.Shape.{open_run_exists}
 use Rattle.bf_core.proofs.Numbers.{below_or}
@@ -66,6 +66,25 @@ none_decides b k t none (Step.Close j) of due = absurd of
 none_decides b k t none Step.Open of due = absurd of
 none_decides b k t none (Step.Settle y) of due = none (subst₂ (λ (j u : ℕ). IsDecidable b.dag b.state j u) of.0 of.1 due.1.0.0)
 none_decides b k t none (Step.Expand y) of due = none (subst₂ (λ (j u : ℕ). IsDecidable b.dag b.state j u) of.0 of.1 due.1.0.0)
+
+settled_turn : (y : Turn) (k r t : ℕ) → y.run ≡ k → y.rank ≡ r → y.task ≡ t → Step.Settle y ≡ Step.Settle (record { run = k; rank = r; task = t })
+settled_turn y k r t a b c = rw (← a, ← b, ← c) refl
+
+unexpanded : (dag : Dag) (s : State) (k t : ℕ) → is_some (task_of dag t).expand ≡ false → goes_on_in dag s k t ≡ false
+unfolding goes_on_in
+unexpanded dag s k t none = rw none refl
+
+-- where a task isn't expanded, just one step of it may come, and only where it may be decided
+pub settles : (b : Backfill) (k t r : ℕ) → is_some (task_of b.dag t).expand ≡ false → IsRank (shape_of b.dag).upstreams t r → (x : Step) → IsOfTask k t x → IsDueStep b x →
+    (Step.Settle (record { run = k; rank = r; task = t }) ≡ x) × IsDecidable b.dag b.state k t
+settles b k t r none ranked (Step.Close j) of due = absurd of
+settles b k t r none ranked Step.Open of due = absurd of
+settles b k t r none ranked (Step.Settle y) of due = (
+  sym (settled_turn y k r t of.0 (one_rank (shape_of b.dag).upstreams t y.rank r (subst (λ (u : ℕ). IsRank (shape_of b.dag).upstreams u y.rank) of.1 due.0) ranked) of.1),
+  subst₂ (λ (j u : ℕ). IsDecidable b.dag b.state j u) of.0 of.1 due.1.0.0,
+)
+settles b k t r none ranked (Step.Expand y) of due =
+    absurd (both_ways _ (unexpanded b.dag b.state y.run y.task (subst (λ (u : ℕ). is_some (task_of b.dag u).expand ≡ false) (sym of.1) none)) due.1.0.1)
 
 -- ---- the steps of several tasks
 
@@ -257,6 +276,10 @@ no_close b k none (Step.Close j) of due = none (subst (λ (i : ℕ). MayCome b (
 no_close b k none Step.Open of due = of
 no_close b k none (Step.Settle y) of due = of
 no_close b k none (Step.Expand y) of due = of
+
+-- a run with a task that isn't settled may not be closed
+pub no_close_before : (b : Backfill) (k t : ℕ) → t < length b.dag.tasks → is_settled b.state k t ≡ false → (x : Step) → IsCloseOf k x → IsDueStep b x → ⊥
+no_close_before b k t there unsettled = no_close b k (λ may. both_ways _ unsettled (may.0.1 t there))
 
 -- a run without a row is not there, so none of its steps may come
 pub no_run : (b : Backfill) (k n : ℕ) → length b.state.runs ≤ n → n ≤ k → (x : Step) → IsOfRun k x → IsDueStep b x → ⊥

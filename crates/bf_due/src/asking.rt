@@ -1,48 +1,20 @@
 //! Asking the core which steps may come, and putting those on an agenda.
-ghost use Rattle.std.specs.Prelude.{◌≡◌, ◌<◌, ◌≤◌, ◌+◌, ◌↔◌, ℕ, Bool, length, slice_index, IsTrue, IfSome, IfNone, Some, false};
+ghost use Rattle.std.specs.Prelude.{◌≡◌, ◌<◌, ◌≤◌, ◌+◌, ◌↔◌, ℕ, length, slice_index, IsTrue, false};
 ghost use Rattle.bf_graph.specs.Edges.{IsUpstream};
 ghost use Rattle.bf_graph.specs.Lookups.{IsRisingListOf};
 ghost use Rattle.bf_plan.specs.Plans.{shape_of};
-ghost use Rattle.bf_core.specs.Events.{IsDecidable};
-ghost use Rattle.bf_core.specs.Cores.{IsThere, MayCome, deciding};
-ghost use Rattle.bf_due.specs.declared.agenda.Step.{Step};
+ghost use Rattle.bf_core.specs.Cores.{IsThere, MayCome};
 ghost use Rattle.bf_due.specs.Agendas.{event_of};
-ghost use Rattle.bf_due.specs.Dues.{HasAdded, HasRoom, IsDueStep};
+ghost use Rattle.bf_due.specs.Dues.{HasAdded, HasRoom};
 ghost use Rattle.bf_due.specs.inner.Dues.{Asks, AsksAll, Concerns, IsAround, IsBelow, IsPruned, IsCloseOf, IsOfFirst, IsOfRun, IsOfTask, IsOpening, IsStirred, IsUnder, SpeaksOfTask, newest};
 ghost use Rattle.bf_due.specs.Cursors.{IsNoted};
-ghost use Rattle.bf_due.specs.inner.Stirring.{is_past_known_in, may_let_be_decided_in, waits_for_in};
+ghost use Rattle.bf_due.specs.inner.Stirring.{is_past_known_in, is_settled, may_let_be_decided_in, waits_for_in};
 
-use crate::agenda::{Agenda, Step, Turn};
+use crate::agenda::{Agenda, Step};
 use crate::cursors::Cursors;
+use crate::decisions::{decision_step, may_decide};
 use crate::news::{News, rule_looks_for};
 use bf_core::{Core, Event};
-
-/// Whether an event decides a task by its expansion.
-fn is_expansion(event: &Event) -> bool
-    ensures { (expands : Bool) (run task : ℕ) → event.now ≡ deciding expands run task → result
-        ≡ expands }
-{
-    matches!(event, Event::Expand { .. })
-}
-
-/// Whether a task that may be decided in a run now is decided by its expansion; None where it can't be decided now.
-fn decides_by_expansion(core: &Core<'_>, run: u32, task: u32) -> Option<bool>
-    ensures some { IfSome result (λ expands. MayCome core.now (deciding expands run task)) }
-    ensures none { IfNone result (¬ (IsDecidable core.now.dag core.now.state run task)) }
-{
-    let event = core.decision_event(run, task)?;
-    Some(is_expansion(&event))
-}
-
-/// Whether a task may be decided in a run now: by its expansion where `expands`, and else without one.
-pub fn may_decide(core: &Core<'_>, run: u32, task: u32, expands: bool) -> bool
-    ensures { IsTrue result ↔ MayCome core.now (deciding expands run task) }
-{
-    match decides_by_expansion(core, run, task) {
-        Some(goes_on) => goes_on == expands,
-        None => false,
-    }
-}
 
 /// Whether a step's event may come to the core now.
 fn may_come(core: &Core<'_>, step: Step) -> bool
@@ -56,22 +28,7 @@ fn may_come(core: &Core<'_>, step: Step) -> bool
     }
 }
 
-/// The step that decides a task in a run; nothing where it can't be decided now.
-fn decision_step(core: &Core<'_>, run: u32, task: u32) -> Option<Step>
-    requires { task < length core.now.dag.tasks }
-    ensures due { IfSome result (IsDueStep core.now) }
-    ensures each { (x : Step) → IsOfTask run task x → IsDueStep core.now x → result ≡ Some x }
-{
-    let rank = core.plan().graph().rank(task);
-    let turn = Turn { run, rank, task };
-    match decides_by_expansion(core, run, task) {
-        Some(true) => Some(Step::Expand(turn)),
-        Some(false) => Some(Step::Settle(turn)),
-        None => None,
-    }
-}
-
-/// Adds the step that decides a task, where it may be decided now.
+/// Adds the step that decides a task, none of whose upstreams is awaited, where it has one.
 fn add_decision(agenda: &mut Agenda, core: &Core<'_>, run: u32, task: u32)
     requires task { task < length core.now.dag.tasks }
     requires room { length agenda.old.items + 1 ≤ agenda.old.room }
@@ -106,8 +63,7 @@ pub(crate) fn add_open(agenda: &mut Agenda, core: &Core<'_>)
     }
 }
 
-/// Adds the step that decides a task in a run, where it may be decided now. `row` has the cursors of the run; the
-/// core is asked only once no upstream is awaited.
+/// Adds the step that decides a task in a run, once no upstream is awaited. `row` has the cursors of the run.
 fn add_decision_if_unawaited(
     agenda: &mut Agenda,
     row: &mut Cursors,
@@ -149,16 +105,23 @@ fn is_past_known(core: &Core<'_>, run: u32, task: u32) -> bool
     core.is_settled(run - 1, task)
 }
 
-/// False only where the news can't let `task`, which is directly below the task of the news, be decided. Notes how
-/// far it looked in `row`, the cursors of the run of the news.
-fn may_let_be_decided(row: &mut Cursors, core: &Core<'_>, news: News, task: u32) -> bool
+/// False only where the news, whose task is `settled` or isn't, can't let `task` be decided, which is directly below
+/// it. Notes how far it looked in `row`, the cursors of the run of the news.
+fn may_let_be_decided(
+    row: &mut Cursors,
+    core: &Core<'_>,
+    news: News,
+    settled: bool,
+    task: u32,
+) -> bool
     requires { task < length core.now.dag.tasks }
-    ensures matters { IsNoted core.now news.run row.old → result ≡ false
+    ensures matters { IsNoted core.now news.run row.old
+        → settled ≡ is_settled core.now.state news.run news.task → result ≡ false
         → may_let_be_decided_in core.now.dag core.now.state news task ≡ false }
     ensures reached { IsNoted core.now news.run row.old → IsNoted core.now news.run row.new }
 {
     if keeps_waiting(core, news.task, task) {
-        return row.is_settled(core, news.run, news.task);
+        return settled;
     }
     let dag = core.plan().dag();
     if dag.task(task).expand.is_some() {
@@ -171,51 +134,55 @@ fn may_let_be_decided(row: &mut Cursors, core: &Core<'_>, news: News, task: u32)
     row.are_upstreams_settled(core, news.run, task)
 }
 
-/// Adds the step that decides `task`, directly below the task of the news, where the news matter to it and it may be
-/// decided now. `row` has the cursors of the run of the news.
+/// Adds the step that decides `task`, directly below the task of the news, which is `settled` or isn't, where the news
+/// matter to it and no upstream is awaited. `row` has the cursors of the run of the news.
 fn add_decision_by_news(
     agenda: &mut Agenda,
     row: &mut Cursors,
     core: &Core<'_>,
     news: News,
+    settled: bool,
     task: u32,
 )
     requires task { task < length core.now.dag.tasks }
     requires room { length agenda.old.items + 1 ≤ agenda.old.room }
-    ensures asks { Asks core.now news.run (IsStirred core.now.dag core.now.state news task) row.old
-        row.new agenda.old.items agenda.new.items }
+    ensures asks { settled ≡ is_settled core.now.state news.run news.task
+        → Asks core.now news.run (IsStirred core.now.dag core.now.state news task) row.old row.new
+        agenda.old.items agenda.new.items }
     ensures len { length agenda.new.items ≤ length agenda.old.items + 1 }
     ensures room { agenda.old.room ≤ agenda.new.room }
 {
-    if may_let_be_decided(row, core, news, task) {
+    if may_let_be_decided(row, core, news, settled, task) {
         add_decision_if_unawaited(agenda, row, core, news.run, task);
     }
 }
 
-/// Adds the steps that decide those of these tasks, directly below the task of the news, to which the news matter and
-/// that may be decided now. `row` has the cursors of the run of the news.
+/// Adds the steps that decide those of these tasks, directly below the task of the news, which is `settled` or isn't, to
+/// which the news matter and none of whose upstreams is awaited. `row` has the cursors of the run of the news.
 fn add_decisions_by_news(
     agenda: &mut Agenda,
     row: &mut Cursors,
     core: &Core<'_>,
     news: News,
+    settled: bool,
     tasks: &[u32],
 )
     requires tasks { (i : ℕ) → i < length tasks.now
         → slice_index tasks.now i < length core.now.dag.tasks }
     requires room { length agenda.old.items + length tasks.now ≤ agenda.old.room }
-    ensures asks { Asks core.now news.run
+    ensures asks { settled ≡ is_settled core.now.state news.run news.task
+        → Asks core.now news.run
         (IsOfFirst core.now.dag core.now.state news tasks.now (length tasks.now)) row.old row.new
         agenda.old.items agenda.new.items }
     ensures len { length agenda.new.items ≤ length agenda.old.items + length tasks.now }
     ensures room { agenda.old.room ≤ agenda.new.room }
 {
     for task in tasks {
-        add_decision_by_news(agenda, row, core, news, *task);
+        add_decision_by_news(agenda, row, core, news, settled, *task);
     }
 }
 
-/// Adds the steps that decide the tasks of a run, where they may be decided now. `row` has the cursors of the run.
+/// Adds the steps that decide those tasks of a run none of whose upstreams is awaited. `row` has the cursors of the run.
 fn add_decisions_of_run(agenda: &mut Agenda, row: &mut Cursors, core: &Core<'_>, run: u32)
     requires { length agenda.old.items + length core.now.dag.tasks ≤ agenda.old.room }
     ensures asks { Asks core.now run (IsBelow run (length core.now.dag.tasks)) row.old row.new
@@ -264,21 +231,37 @@ fn downstreams<'a>(core: &Core<'a>, task: u32) -> &'a [u32]
 }
 
 /// Adds what may come now of this: the decisions of the tasks directly below the task of the news, to which the news
-/// matter, and the close of its run. `row` has the cursors of the run.
-fn add_steps_below(agenda: &mut Agenda, row: &mut Cursors, core: &Core<'_>, news: News)
+/// matter, and the close of its run, where the task of the news is `settled`. `row` has the cursors of the run.
+fn add_steps_below(
+    agenda: &mut Agenda,
+    row: &mut Cursors,
+    core: &Core<'_>,
+    news: News,
+    settled: bool,
+)
     requires task { news.task < length core.now.dag.tasks }
     requires room { HasRoom core.now.dag agenda.old.items agenda.old.room }
-    ensures asks { Asks core.now news.run (IsUnder core.now.dag core.now.state news) row.old row.new
+    ensures asks { settled ≡ is_settled core.now.state news.run news.task
+        → Asks core.now news.run (IsUnder core.now.dag core.now.state news) row.old row.new
         agenda.old.items agenda.new.items }
     ensures len { length agenda.new.items ≤ length agenda.old.items +
         (length core.now.dag.tasks + 1) }
     ensures room { agenda.old.room ≤ agenda.new.room }
 {
-    add_decisions_by_news(agenda, row, core, news, downstreams(core, news.task));
-    add_close_if_settled(agenda, row, core, news.run);
+    add_decisions_by_news(
+        agenda,
+        row,
+        core,
+        news,
+        settled,
+        downstreams(core, news.task),
+    );
+    if settled {
+        add_close_if_settled(agenda, row, core, news.run);
+    }
 }
 
-/// Adds the step that decides a task in a run, where there is such a run and the task may be decided now. `rows` has
+/// Adds the step that decides a task in a run, where there is such a run and no upstream is awaited. `rows` has
 /// the cursors of each run.
 fn add_decision_if_there(
     agenda: &mut Agenda,
@@ -323,8 +306,9 @@ fn add_steps_around(agenda: &mut Agenda, rows: &mut Vec<Cursors>, core: &Core<'_
 {
     let _few = core.run_count();
     let row = &mut rows[news.run as usize];
-    add_steps_below(agenda, row, core, news);
-    if row.is_settled(core, news.run, news.task) {
+    let settled = row.is_settled(core, news.run, news.task);
+    add_steps_below(agenda, row, core, news, settled);
+    if settled {
         add_decision_if_there(agenda, rows, core, news.run + 1, news.task);
     }
 }

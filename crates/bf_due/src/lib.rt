@@ -18,8 +18,9 @@
 mod agenda;
 mod asking;
 mod cursors;
+mod decisions;
 mod due;
 mod news;
 
-pub use asking::may_decide;
+pub use decisions::may_decide;
 pub use due::Due;
