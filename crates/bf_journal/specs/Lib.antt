@@ -1,4 +1,4 @@
-pub mod Halting
+pub mod Counting
 pub mod Lines
 pub mod Records
 pub mod Heads

@@ -1,7 +1,7 @@
 //! Devices whose last bytes can be dropped.
 ghost use Rattle.std.specs.Prelude.{◌≡◌, IfErr, OnErr, OnOk, false, option_map, take, true};
 ghost use Rattle.bf_device.specs.Device.{HasGoneOn, HasHalted};
-ghost use Rattle.bf_journal.specs.Halting.{Counts, CountsNone};
+ghost use Rattle.bf_journal.specs.Counting.{CountsHalt, CountsNoHalt};
 
 use crate::durable::Durable;
 use bf_device::{Halt, MOST_INTERRUPTIONS, Output};
@@ -16,9 +16,10 @@ pub trait Cuttable: Durable {
         ensures ok { OnOk result (Self.written self.new
             ≡ option_map (take count) (Self.written self.old)) }
         ensures kept { OnErr result (Self.written self.new ≡ Self.written self.old) }
-        ensures uncounted { OnOk result (CountsNone (Self.failures self.old) (Self.failures self.new)
+        ensures uncounted { OnOk result (CountsNoHalt
+            (Self.failures self.old) (Self.failures self.new)
             (Self.interruptions self.old) (Self.interruptions self.new)) }
-        ensures counted { IfErr result (λ halt. Counts halt
+        ensures counted { IfErr result (λ halt. CountsHalt halt
             (Self.failures self.old) (Self.failures self.new)
             (Self.interruptions self.old) (Self.interruptions self.new)) };
 }

@@ -1,7 +1,7 @@
 //! Devices whose bytes outlast a power cut.
 ghost use Rattle.std.specs.Prelude.{◌≡◌, false, true, ℕ, List, Option, IfErr, OnOk};
 ghost use Rattle.bf_device.specs.Device.{HasGoneOn, HasHalted};
-ghost use Rattle.bf_journal.specs.Halting.{Counts, CountsNone};
+ghost use Rattle.bf_journal.specs.Counting.{CountsHalt, CountsNoHalt};
 
 use bf_device::{Halt, MOST_INTERRUPTIONS, Memory, Output, Write};
 use std::fs::OpenFile;
@@ -17,9 +17,10 @@ pub trait Durable: Write {
     fn sync(&mut self) -> Result<(), Halt>
         ensures kept { Self.written self.new ≡ Self.written self.old }
         ensures synced { OnOk result (outlasting self.new ≡ Self.written self.new) }
-        ensures uncounted { OnOk result (CountsNone (Self.failures self.old) (Self.failures self.new)
+        ensures uncounted { OnOk result (CountsNoHalt
+            (Self.failures self.old) (Self.failures self.new)
             (Self.interruptions self.old) (Self.interruptions self.new)) }
-        ensures counted { IfErr result (λ halt. Counts halt
+        ensures counted { IfErr result (λ halt. CountsHalt halt
             (Self.failures self.old) (Self.failures self.new)
             (Self.interruptions self.old) (Self.interruptions self.new)) };
 }

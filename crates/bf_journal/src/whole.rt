@@ -1,6 +1,6 @@
 //! Journals, made whole.
 ghost use Rattle.std.specs.Prelude.{◌≡◌, ◌+◌, List, ℕ, Some, false, length, true};
-ghost use Rattle.bf_journal.specs.Halting.{CountsNone};
+ghost use Rattle.bf_journal.specs.Counting.{CountsNoHalt};
 ghost use Rattle.bf_journal.specs.Left.{IsLeftPart, made_whole};
 
 use crate::cuttable::{Cuttable, try_cut};
@@ -15,7 +15,7 @@ pub fn try_make_whole<D: Cuttable>(device: &mut D, head: &[u8], found: &Found) -
         → result ≡ true → D.written device.new ≡ Some (made_whole head.now held found.now.whole) }
     ensures part { (held : List ℕ) → found.now.whole + found.now.torn ≡ length held → result ≡ false
         → IsLeftPart head.now held (D.written device.old) (D.written device.new) }
-    ensures undisturbed { CountsNone (D.failures device.old) (D.failures device.new)
+    ensures undisturbed { CountsNoHalt (D.failures device.old) (D.failures device.new)
         (D.interruptions device.old) (D.interruptions device.new) → result ≡ true }
 {
     if found.torn > 0 && !try_cut(device, found.whole) {
