@@ -1,5 +1,5 @@
 -- What a device was given, and what it gave.
-use Rattle.std.specs.Prelude.{◌≡◌, ◌≤◌, ℕ, zero, suc, ◌+◌, ◌%◌, ◌^◌, ◌⊎◌, List, [], ◌∷◌, ◌++◌, Option, option_map, Result, Ok, Err}
+use Rattle.std.specs.Prelude.{◌≡◌, ◌≤◌, ℕ, zero, suc, ◌+◌, ◌-◌, ◌%◌, ◌^◌, ◌⊎◌, List, [], ◌∷◌, ◌++◌, Option, option_map, Result, Ok, Err}
 use Rattle.bf_device.specs.declared.device.Halt.{Halt}
 use Rattle.bf_device.specs.declared.device.Halt.TheVariants.{Again, Failed}
 
@@ -40,6 +40,19 @@ read_failed (Err Failed) = 1
 abbrev pub HasHalted : ℕ → ℕ → ℕ → ℕ → Type 0
 HasHalted failures_old failures_new interruptions_old interruptions_new =
     WentOn 1 failures_old failures_new ⊎ WentOn 1_001 interruptions_old interruptions_new
+
+-- one call failed, or with those before, there were more interruptions than a call goes on after
+abbrev pub HasHaltedBehind : ℕ → ℕ → ℕ → ℕ → ℕ → Type 0
+HasHaltedBehind before failures_old failures_new interruptions_old interruptions_new =
+    WentOn 1 failures_old failures_new
+    ⊎ WentOn (1_001 - before) interruptions_old interruptions_new
+
+-- no call failed, and the interruptions were counted on, up to as many as a call goes on after
+pub record HasCounted (before after failures_old failures_new interruptions_old interruptions_new : ℕ) : Type 0 where
+  pub rises : before ≤ after
+  pub few : after ≤ 1_000
+  pub unfailed : WentOn 0 failures_old failures_new
+  pub interrupted_so : WentOn (after - before) interruptions_old interruptions_new
 
 -- no call failed, and there were no more interruptions than a call goes on after
 abbrev pub HasGoneOn : ℕ → ℕ → ℕ → ℕ → Type 0

@@ -20,4 +20,4 @@ pub use halting::Halting;
 pub use input::Input;
 pub use memory::Memory;
 pub use output::Output;
-pub use sending::{Cause, WriteFault, send};
+pub use sending::{Cause, WriteFault, halted_after, send, send_more};

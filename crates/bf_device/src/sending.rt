@@ -1,6 +1,6 @@
 //! A text sent to a device.
 ghost use Rattle.std.specs.Prelude.{◌≡◌, ◌≤◌, ◌⊎◌, length, take, OnOk, IfErr};
-ghost use Rattle.bf_device.specs.Device.{sent, WentOn, HasHalted, HasGoneOn};
+ghost use Rattle.bf_device.specs.Device.{sent, HasCounted, HasHalted, HasHaltedBehind, HasGoneOn};
 
 use crate::device::{Halt, MOST_INTERRUPTIONS, Write};
 use thiserror::Error;
@@ -23,14 +23,45 @@ pub struct WriteFault {
 }
 
 /// Makes the fault of a device that took no more after `sent` bytes of the text.
-fn halted_after(sent: usize) -> WriteFault
+pub fn halted_after(sent: u64) -> WriteFault
     ensures sent { result.sent ≡ sent }
     ensures cause { result.cause ≡ Cause.Io }
 {
     WriteFault {
-        sent: sent as u64,
+        sent,
         cause: Cause::Io,
     }
+}
+
+/// Writes some bytes, in as many calls as the device needs, and counts `interruptions`, at most 1,000 so far, on. Err
+/// where a write fails or takes nothing, or at the 1,001st interruption: so many of these bytes went out.
+pub fn send_more<W: Write>(out: &mut W, bytes: &[u8], interruptions: &mut u32) -> Result<(), usize>
+    requires { interruptions.old ≤ 1_000 }
+    ensures ok { OnOk result (W.written out.new ≡ sent (W.written out.old) bytes.now) }
+    ensures part { IfErr result (λ count. (count ≤ length bytes.now)
+        × (W.written out.new ≡ sent (W.written out.old) (take count bytes.now))) }
+    ensures halted { IfErr result (λ _. HasHaltedBehind interruptions.old
+        (W.failures out.old) (W.failures out.new)
+        (W.interruptions out.old) (W.interruptions out.new)) }
+    ensures counted { OnOk result (HasCounted interruptions.old interruptions.new
+        (W.failures out.old) (W.failures out.new)
+        (W.interruptions out.old) (W.interruptions out.new)) }
+{
+    let mut count = 0;
+    while count < bytes.len() {
+        match out.write(&bytes[count..]) {
+            Ok(0) => return Err(count),
+            Ok(taken) => count += taken,
+            Err(Halt::Again) => {
+                if *interruptions == MOST_INTERRUPTIONS {
+                    return Err(count);
+                }
+                *interruptions += 1;
+            }
+            Err(Halt::Failed) => return Err(count),
+        }
+    }
+    Ok(())
 }
 
 /// Writes the whole text, in as many calls as the device needs. Err where a write fails or takes nothing, or at the
@@ -45,20 +76,9 @@ pub fn send<W: Write>(out: &mut W, text: &[u8]) -> Result<(), WriteFault>
     ensures went_on { OnOk result (HasGoneOn (W.failures out.old) (W.failures out.new)
         (W.interruptions out.old) (W.interruptions out.new)) }
 {
-    let mut sent = 0;
     let mut interruptions = 0;
-    while sent < text.len() {
-        match out.write(&text[sent..]) {
-            Ok(0) => return Err(halted_after(sent)),
-            Ok(count) => sent += count,
-            Err(Halt::Again) => {
-                if interruptions == MOST_INTERRUPTIONS {
-                    return Err(halted_after(sent));
-                }
-                interruptions += 1;
-            }
-            Err(Halt::Failed) => return Err(halted_after(sent)),
-        }
+    match send_more(out, text, &mut interruptions) {
+        Ok(()) => Ok(()),
+        Err(count) => Err(halted_after(count as u64)),
     }
-    Ok(())
 }

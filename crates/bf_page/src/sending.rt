@@ -5,7 +5,7 @@ ghost use Rattle.bf_page.specs.Page.{EndsAt};
 ghost use Rattle.bf_page.specs.inner.Pieces.{whole, behind, steps_behind, left};
 
 use crate::safe::split_safe_front;
-use bf_device::{Cause, Halt, MOST_INTERRUPTIONS, Write, WriteFault};
+use bf_device::{Cause, Halt, MOST_INTERRUPTIONS, Write, WriteFault, halted_after};
 
 /// A fixed piece of a page, `fixed`, and the text that follows it, `told`, not escaped yet.
 #[derive(Clone, Copy)]
@@ -58,17 +58,6 @@ fn next_rest<'a>(told: &'a [u8], pieces: &'a [Piece<'a>], last: &'a [&'a str]) -
             last,
         }),
         None => None,
-    }
-}
-
-/// The fault of a device that halted after it took `sent` bytes.
-fn halted_after(sent: u64) -> WriteFault
-    ensures sent { result.sent ≡ sent }
-    ensures cause { result.cause ≡ Cause.Io }
-{
-    WriteFault {
-        sent,
-        cause: Cause::Io,
     }
 }
 
