@@ -3,3 +3,5 @@ pub mod Told
 pub mod Report
 pub mod Dated
 pub mod Values
+pub mod LongTexts
+pub mod inner

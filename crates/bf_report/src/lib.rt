@@ -19,6 +19,7 @@ mod dated;
 mod instances;
 mod laws;
 mod lines;
+mod long_text;
 mod report;
 mod writing;
 

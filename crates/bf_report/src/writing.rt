@@ -5,7 +5,7 @@ ghost use Rattle.bf_report.specs.Report.{report_text};
 
 use crate::lines::text_of_report;
 use crate::report::Report;
-use bf_device::{Cause, Write, WriteFault, send};
+use bf_device::{Cause, Write, WriteFault};
 use std::alloc::Global;
 
 /// Writes a report to `out`. Err tells how many bytes went out and why no more did: a write failed or took nothing, or
@@ -24,7 +24,7 @@ pub fn write_report<W: Write>(alloc: Global, report: &Report, out: &mut W) -> Re
     ensures memory { IfErr result (λ fault. fault.cause ≡ Cause.OutOfMemory → fault.sent ≡ 0) }
 {
     match text_of_report(alloc, report) {
-        Ok(text) => send(out, text.as_bytes()),
+        Ok(text) => text.send(out),
         Err(_) => Err(WriteFault {
             sent: 0,
             cause: Cause::OutOfMemory,
