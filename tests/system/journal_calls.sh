@@ -156,6 +156,27 @@ took=$((SECONDS - start))
 rows=$((rows + 1))
 [[ $(< count) -ge 3 && $(< count) -le $((took + 2)) ]] || differs "$(< count) syncs in $took seconds"
 
+# ---- the last record, and the sync at the end
+
+# The backfill has ended by then. What is lost is told, and the next run records the try where it isn't recorded.
+loses_the_end() {
+    local call=$1 number=$2 lines=$3
+    rm -f "$journal"
+    disturbed "$call" "$number" ''
+    is_same "the status where $call $number is refused" 0 "$status"
+    is_same 'what is told there' "journal: the report is whole, the journal isn't" "$(< err)"
+    holds 'that the report is whole there' cmp -s plain out
+    is_same 'the lines of the journal there' "$lines" "$(wc -l < "$journal")"
+    undisturbed
+    is_same 'the status behind it' 0 "$status"
+    is_same 'the lines of the journal behind it' 2 "$(wc -l < "$journal")"
+}
+tasks '{"id":"a","command":["true"]}'
+words=(run "$graph" "${day[@]}" --journal "$journal")
+"$program" run "$graph" "${day[@]}" > plain
+loses_the_end write 2 1
+loses_the_end sync 1 2
+
 # ---- README's own example
 
 line=$(sed -n 's|^\./backfill \(run .* --journal [^ ]*\) > .*|\1|p' "$root/README.md")
@@ -180,9 +201,12 @@ tasks '{"id":"a","command":["true"]}'
 rm -f journal
 env REFUSED_PROGRAM=backfill CALL_COUNT="$work/count" SLOWLY_STARTED=3 LD_PRELOAD="$work/refuse.so" "$program" run "$graph" "${day[@]}" \
     --journal journal > out 2> err &
-waits_for test -s journal
-sleep 0.2
-kills $!
+process=$!
+is_starting() {
+    pgrep -P "$process" > said
+}
+waits_for is_starting
+kills "$process"
 tells 2 'refused 44 journal in use' run "$graph" "${day[@]}" --journal journal
 is_free() {
     goes_on journal

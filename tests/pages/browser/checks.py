@@ -88,6 +88,20 @@ def is_same(name, wanted, found):
     is_so(name, wanted == found, f"{found!r}, not {wanted!r}")
 
 
+def waits_for(browser, script, holds):
+    """What a script gives, from a moment later on, as soon as that holds, or after five seconds."""
+    for _ in range(25):
+        time.sleep(0.2)
+        found = browser.script(script, True)
+        if holds(found):
+            break
+    return found
+
+
+def leads_to(browser, what, place):
+    is_same(what, place, waits_for(browser, "location.hash", lambda found: found == place))
+
+
 class Texts(html.parser.HTMLParser):
     """The texts of a page as another reader of HTML finds them."""
 
@@ -284,15 +298,6 @@ def looks_at_gantt(browser, sample, tries, day):
         far = [(a[0], a[4:], b[4:]) for a, b in zip(wanted, found) if abs(a[4] - b[4]) > 0.002 or abs(a[5] - b[5]) > 0.002]
         is_same(f"Gantt: bars elsewhere, {what}", [], far)
 
-    def is_at(what, place):
-        found = None
-        for _ in range(20):
-            time.sleep(0.1)
-            found = browser.script("location.hash")
-            if found == f"#gantt/{place}":
-                break
-        is_same(f"Gantt: {what}", f"#gantt/{place}", found)
-
     states = {it.name(): showing.FAILED for it in tries}
     states |= {"first try 1": showing.SUCCESS, "each [0] try 2": showing.SUCCESS, "each [1] try 1": showing.SUCCESS, "last try 1": showing.SKIPPED}
     # (the rows of the grid: each, slow and absent behind first, and last behind each)
@@ -318,7 +323,7 @@ def looks_at_gantt(browser, sample, tries, day):
     for key, place in [("l", f"{day}/slow"), ("Home", f"{day}/first"), ("ArrowDown", f"{day}/each/0"), ("ArrowDown", f"{day}/each/0"),
                        ("ArrowDown", f"{day}/each/1"), ("End", f"{day}/absent"), ("ArrowLeft", "2024-01-01T00:00:00Z/absent"), ("ArrowRight", f"{day}/absent")]:
         browser.key(key)
-        is_at(key, place)
+        leads_to(browser, f"Gantt: {key}", f"#gantt/{place}")
     active = "document.getElementById(document.getElementById('gantt').getAttribute('aria-activedescendant')).getAttribute('aria-label')"
     absent = next(it for it in tries if it.task == "absent")
     is_same("Gantt: the name of the active row", f"absent try 1, failed, {absent.length()} from {absent.began()}, not started", browser.script(active))
@@ -327,7 +332,7 @@ def looks_at_gantt(browser, sample, tries, day):
     browser.key("Escape")
     is_same("Gantt: Escape, back", "gantt", browser.script("document.activeElement.id"))
     browser.key("Escape")
-    is_at("Escape chooses the run", day)
+    leads_to(browser, "Gantt: Escape chooses the run", f"#gantt/{day}")
     browser.script("document.getElementById('find').value = 'EACH'; document.getElementById('find').oninput()")
     is_same("Gantt: by a name", 3, len(browser.script(BARS)))
     browser.script("document.getElementById('find').value = ''; document.getElementById('find').oninput()")
@@ -356,10 +361,6 @@ def looks_at_gantt(browser, sample, tries, day):
 def looks_at_keys(browser, sample):
     """Where each key leads: the address, and the role and the name of what is active there."""
 
-    def is_at(what, place):
-        time.sleep(0.2)
-        is_same(f"keys: {what}", place, browser.script("location.hash"))
-
     def press(*keys):
         for key in keys:
             browser.key(key)
@@ -367,31 +368,34 @@ def looks_at_keys(browser, sample):
     browser.open(sample.address)
     browser.script("document.getElementById('grid').focus()")
     press("ArrowDown")
-    is_at("into the grid", "#2024-01-01T00:00:00Z/open_window")
+    leads_to(browser, "keys: into the grid", "#2024-01-01T00:00:00Z/open_window")
     is_same("keys: a cell", ["gridcell", "open_window, 2024-01-01, success"], browser.script(ACTIVE))
     press("ArrowRight", "ArrowDown")
-    is_at("right and down", "#2024-01-02T00:00:00Z/extract.orders")
+    leads_to(browser, "keys: right and down", "#2024-01-02T00:00:00Z/extract.orders")
     press("ArrowLeft", "ArrowLeft")
-    is_at("to the name of a task", "#/extract.orders")
+    leads_to(browser, "keys: to the name of a task", "#/extract.orders")
     is_same("keys: a name", "rowheader", browser.script(ACTIVE)[0])
     press("ArrowRight", "ArrowUp", "ArrowUp")
-    is_at("to a run", "#2024-01-01T00:00:00Z")
+    leads_to(browser, "keys: to a run", "#2024-01-01T00:00:00Z")
     is_same("keys: a run", ["columnheader", "run 2024-01-01, success"], browser.script(ACTIVE))
     press("ArrowDown", "End")
-    is_at("End", "#2024-03-30T00:00:00Z/open_window")
+    leads_to(browser, "keys: End", "#2024-03-30T00:00:00Z/open_window")
     press("Home", "PageDown")
-    time.sleep(0.2)
-    place = browser.script("location.hash")
-    is_so("keys: Home, PageDown", place.startswith("#2024-01-01T00:00:00Z/") and "open_window" not in place, place)
+
+    def is_down(place):
+        return place.startswith("#2024-01-01T00:00:00Z/") and "open_window" not in place
+
+    place = waits_for(browser, "location.hash", is_down)
+    is_so("keys: Home, PageDown", is_down(place), place)
     browser.key("End", modifiers=2)
-    is_at("Ctrl+End", "#2024-03-30T00:00:00Z/cleanup")
+    leads_to(browser, "keys: Ctrl+End", "#2024-03-30T00:00:00Z/cleanup")
     browser.key("Home", modifiers=2)
     press("f")
-    is_at("f, the next failure", "#2024-01-06T00:00:00Z/extract.events")
+    leads_to(browser, "keys: f, the next failure", "#2024-01-06T00:00:00Z/extract.events")
     press("f")
-    is_at("f again", "#2024-01-16T00:00:00Z/clean.events")
+    leads_to(browser, "keys: f again", "#2024-01-16T00:00:00Z/clean.events")
     browser.key("F", modifiers=8)
-    is_at("F, the failure before", "#2024-01-06T00:00:00Z/extract.events")
+    leads_to(browser, "keys: F, the failure before", "#2024-01-06T00:00:00Z/extract.events")
     press("Enter")
     is_same("keys: Enter, to the details", "details", browser.script("document.activeElement.id"))
     press("Escape")
@@ -401,13 +405,12 @@ def looks_at_keys(browser, sample):
     press(" ")
     is_same("keys: Space opens", 8, sum(name.startswith("[") for name in browser.script(NAMES)))
     press("ArrowDown", "ArrowDown")
-    is_at("into the instances", "#2024-01-25T00:00:00Z/load_shop/1")
+    leads_to(browser, "keys: into the instances", "#2024-01-25T00:00:00Z/load_shop/1")
     press(" ")
-    is_at("Space closes", "#2024-01-25T00:00:00Z/load_shop")
+    leads_to(browser, "keys: Space closes", "#2024-01-25T00:00:00Z/load_shop")
     is_same("keys: none is open", 0, sum(name.startswith("[") for name in browser.script(NAMES)))
     press("Escape")
-    time.sleep(0.2)
-    is_so("keys: Escape chooses nothing", browser.script("location.hash") in ("", "#"))
+    is_so("keys: Escape chooses nothing", waits_for(browser, "location.hash", lambda found: found in ("", "#")) in ("", "#"))
     browser.script("document.activeElement.blur(); window.getSelection().removeAllRanges()")
     met = set()
     for _ in range(20):
@@ -505,10 +508,9 @@ def looks_at_copies(browser, samples):
     browser.call("Browser.grantPermissions", permissions=["clipboardReadWrite", "clipboardSanitizedWrite"])
     browser.open(f"{warehouse.address}#2024-01-25T00:00:00Z/load_shop/1")
     browser.script("[...document.querySelectorAll('aside h3')].find(h => h.textContent.startsWith('Clear')).querySelector('button').click()")
-    time.sleep(0.3)
     wanted = ("backfill clear --from 2024-01-01 --to 2024-03-30 --task load_shop --run 2024-01-25 warehouse/graph.json warehouse/report"
               " > warehouse/report.new")
-    is_same("the line that is copied", wanted, browser.script("navigator.clipboard.readText()", True))
+    is_same("the line that is copied", wanted, waits_for(browser, "navigator.clipboard.readText()", lambda found: found == wanted))
     with tempfile.TemporaryDirectory() as folder:
         browser.call("Browser.setDownloadBehavior", behavior="allow", downloadPath=folder)
         for sample in samples:
