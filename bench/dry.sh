@@ -1,7 +1,8 @@
 #!/usr/bin/env bash
 # Times `backfill dry`, with starting the program, and measures its peak memory, for each task instance: over many tasks, over
-# many runs of which few, one or all may be open at once, and over an expanded task. The half of each shows how both grow. Where there
-# is a rustc, beside the least that such a backfill costs (bench/floor.rs), whose reports have to be the same.
+# many runs of which few, one or all may be open at once, and over an expanded task. The half of each shows how both grow. Medians of
+# fifteen runs, and the least peaks. Where there is a rustc, by turns with the least that such a backfill costs (bench/floor.rs), whose
+# reports have to be the same. Needs GNU time.
 set -euo pipefail
 
 source "$(dirname "$(readlink -f "${BASH_SOURCE[0]}")")/program.sh"
@@ -11,6 +12,7 @@ python3 - "$program" "$work" "$root/bench/graph.py" <<'PY'
 import datetime
 import json
 import os
+import statistics
 import subprocess
 import sys
 import time
@@ -43,18 +45,14 @@ def entries(tasks):
 
 
 def run_of(words):
-    """The time of a command in seconds, and its peak memory in bytes."""
+    """The time of a command in seconds, and its peak memory in bytes, by GNU time: a child of Python begins with Python's own peak."""
     start = time.monotonic()
-    child = subprocess.Popen(words, stdout=subprocess.DEVNULL)
-    _, status, usage = os.wait4(child.pid, 0)
+    status = subprocess.run(["time", "--format=%M", f"--output={work}/peak", *words], stdout=subprocess.DEVNULL).returncode
+    seconds = time.monotonic() - start
     if status != 0:
         sys.exit(f"{' '.join(words)} ended with {status}")
-    return time.monotonic() - start, usage.ru_maxrss * 1024
-
-
-def least_of(words):
-    """The least time of three runs of a command, and its least peak memory."""
-    return tuple(map(min, zip(*(run_of(words) for _ in range(3)))))
+    with open(f"{work}/peak") as file:
+        return seconds, int(file.read()) * 1024
 
 
 def told_by(words):
@@ -70,15 +68,18 @@ def dry_of(graph, table, runs):
     return [program, "dry", f"{work}/graph.json", f"{work}/table.json", "--from", f"{FIRST_DAY}", "--to", f"{last}"]
 
 
-def beside(words, dry, seconds, instances):
-    """How many times the least that a backfill costs the program took, where its report is the same."""
-    floor = f"{work}/floor"
-    if not words or not os.path.exists(floor):
-        return ""
-    if told_by([floor, *words]) != told_by(dry):
-        sys.exit(f"floor {' '.join(words)} reports otherwise")
-    least, peak = least_of([floor, *words])
-    return f", {seconds / least:.1f} times the floor, which took {peak / instances:.0f} bytes"
+def measured(dry, floor, instances):
+    """What fifteen runs come to, each followed by one of the floor, where there is one, which has to report the same."""
+    if floor and told_by(floor) != told_by(dry):
+        sys.exit(f"{' '.join(floor)} reports otherwise")
+    runs = [(run_of(dry), run_of(floor) if floor else None) for _ in range(15)]
+    seconds = statistics.median(own[0] for own, _ in runs)
+    peak = min(own[1] for own, _ in runs)
+    text = f"{seconds:.2f} s, {seconds / instances * 1e6:.2f} us and {peak / instances:.0f} bytes a task instance"
+    if not floor:
+        return text
+    times = statistics.median(own[0] / least[0] for own, least in runs)
+    return f"{text}, {times:.1f} times the floor, which took {min(least[1] for _, least in runs) / instances:.0f} bytes"
 
 
 for name, graph, table, runs, instances, floor in (
@@ -93,8 +94,7 @@ for name, graph, table, runs, instances, floor in (
     ("1,024 items x 50 runs", mapped(), items(1_024), 50, 1_025 * 50, "items 1024 50"),
     ("1,024 items x 50 runs, each pulls all", mapped(command=["true", {"pull": "src"}]), items(1_024), 50, 1_025 * 50, ""),
 ):
-    dry = dry_of(graph, table, runs)
-    seconds, peak = least_of(dry)
-    each = f"{seconds:.2f} s, {seconds / instances * 1e6:.2f} us and {peak / instances:.0f} bytes a task instance"
-    print(f"{name}: {each}{beside(floor.split(), dry, seconds, instances)}", flush=True)
+    least = f"{work}/floor"
+    words = [least, *floor.split()] if floor and os.path.exists(least) else []
+    print(f"{name}: {measured(dry_of(graph, table, runs), words, instances)}", flush=True)
 PY
