@@ -1,12 +1,13 @@
 -- Counts of instances, one after another, and what is seen of instances that ran.
-use Rattle.std.proofs.Common.{◌≡◌, ℕ, ◌+◌, ◌≤◌, Bool, not, ◌&&◌, if◌then◌else◌, List, [], ◌∷◌, length, Option, None, Some, is_some, option_map, refl, sym, ap, ap₂, ◌∙◌, arith}
+use Rattle.std.proofs.Common.{◌≡◌, ℕ, ◌+◌, ◌≤◌, ◌==◌, Bool, true, false, not, ◌&&◌, ◌||◌, true≢false, if◌then◌else◌, inl, inr, List, [], ◌∷◌, length, Option, None, Some, is_some, option_map, refl, sym, ap, ap₂, ◌∙◌, arith}
 use Rattle.std.specs.List.{list_all}
+use Rattle.std.proofs.lemmas.Bool.{cases_Bool, eqb-true, eq-eqb, false_from_ne_true}
 use Rattle.bf_rule.specs.Verdicts.{total_of}
 use Rattle.bf_try.specs.Grades.{most_items}
 use Rattle.bf_core.specs.Few.{IsFew}
-use Rattle.bf_core.specs.Terms.{Counts, add, Cell, Instance, Phase, Outcome, TaskValue, TaskResult, Verdict, is_failed}
-use Rattle.bf_core.specs.Deciding.{past_verdict_of, all_passed}
-use Rattle.bf_core.specs.Events.{counts_of_cell, counts_of_instance, counts_of_instances, results, cons_result}
+use Rattle.bf_core.specs.Terms.{Counts, Dag, Task, add, Cell, Instance, Phase, Outcome, TaskValue, TaskResult, Verdict, is_failed, is_waiting}
+use Rattle.bf_core.specs.Deciding.{past_verdict_of, all_passed, counts_over, lets_decide_in}
+use Rattle.bf_core.specs.Events.{counts_of_cell, counts_of_instance, counts_of_instances, results, cons_result, seen_in, value_in}
 use Rattle.bf_core.specs.inner.Words.{is_finished, passed, ran_ruling}
 
 pub total_add : (a b : Counts) → total_of (add a b) ≡ total_of a + total_of b
@@ -66,10 +67,6 @@ past_of (Some rs) f p e h = rw (← e, h rs refl)
 pub past_ran : (xs : List Instance) → ran_ruling xs ≡ past_verdict_of (option_map TaskValue.Ran (results xs))
 past_ran xs = sym (past_of (results xs) _ _ (some_results xs) (passed_results xs))
 
--- ---- a loop over instances
-
--- ---- a loop over upstreams
-
 -- few instances are counted of a cell that has few
 pub few_total : (c : Cell) → IsFew c → total_of (counts_of_cell c) ≤ most_items
 few_total Cell.Undecided few = omega arith
@@ -77,3 +74,45 @@ few_total Cell.Blocked few = omega arith
 few_total Cell.Skipped few = omega arith
 few_total Cell.UpstreamFailed few = omega arith
 few_total (Cell.Ran xs) few = omega (arith, total_instances xs, few)
+
+-- ---- settled, where none is unfinished
+
+sum_is_none : (a b : ℕ) → (a + b == 0) ≡ ((a == 0) && (b == 0))
+sum_is_none a b = elim (cases_Bool (a == 0)) as (λ _. (a + b == 0) ≡ ((a == 0) && (b == 0))) [
+  | inl none ↦ let same : a + b ≡ b = omega (arith, eqb-true a 0 none) in rw none (ap (λ n. n == 0) same)
+  | inr some ↦ rw some (false_from_ne_true (a + b == 0) (λ both. let none : a ≡ 0 = omega (arith, eqb-true (a + b) 0 both) in true≢false (sym (eq-eqb a 0 none) ∙ some)))
+]
+
+none_unfinished : (p : Phase) → ((counts_of_instance p).unfinished == 0) ≡ is_finished p
+none_unfinished (Phase.Finished (Outcome.Success v)) = refl
+none_unfinished (Phase.Finished Outcome.Failed) = refl
+none_unfinished (Phase.Finished Outcome.Skipped) = refl
+none_unfinished Phase.Waiting = refl
+none_unfinished Phase.Running = refl
+
+none_unfinished_of : (xs : List Instance) → ((counts_of_instances xs).unfinished == 0) ≡ list_all (λ x. is_finished x.phase) xs
+none_unfinished_of [] = refl
+none_unfinished_of (x ∷ xs) =
+    sum_is_none (counts_of_instance x.phase).unfinished (counts_of_instances xs).unfinished ∙ ap₂ (λ a b. a && b) (none_unfinished x.phase) (none_unfinished_of xs)
+
+none_unfinished_in : (c : Cell) → ((counts_of_cell c).unfinished == 0) ≡ is_some (value_in c)
+none_unfinished_in Cell.Undecided = refl
+none_unfinished_in Cell.Blocked = refl
+none_unfinished_in Cell.Skipped = refl
+none_unfinished_in Cell.UpstreamFailed = refl
+none_unfinished_in (Cell.Ran xs) = none_unfinished_of xs ∙ finished_settled xs
+
+or_false : (b : Bool) → (b || false) ≡ b
+or_false true = refl
+or_false false = refl
+
+module _ (dag : Dag) (task : Task) (cell : ℕ → Cell) where
+  -- where the rule waits for all, they let it decide once none is unfinished
+  pub let_decide_where_none_is_unfinished : is_waiting task.rule ≡ true → (us : List ℕ) →
+      ((counts_over (λ u. seen_in (cell u)) us).unfinished == 0) ≡ list_all (lets_decide_in dag task (λ u. seen_in (cell u))) us
+  let_decide_where_none_is_unfinished waits [] = refl
+  let_decide_where_none_is_unfinished waits (u ∷ us) =
+      let lets : ((counts_of_cell (cell u)).unfinished == 0) ≡ lets_decide_in dag task (λ u. seen_in (cell u)) u =
+      rw waits (none_unfinished_in (cell u) ∙ sym (or_false (is_some (value_in (cell u))))) in
+      sum_is_none (counts_of_cell (cell u)).unfinished (counts_over (λ u. seen_in (cell u)) us).unfinished
+      ∙ ap₂ (λ a b. a && b) lets (let_decide_where_none_is_unfinished waits us)

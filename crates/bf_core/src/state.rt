@@ -1,15 +1,11 @@
 //! The state of a backfill: what each part of it is, and how that is read and changed.
 ghost use Rattle.std.specs.Prelude.{◌≡◌, ◌<◌, ◌↔◌, ◌≤◌, ◌&&◌, length, IsSome, IfSome, IfNone, is_some, IfOk};
 ghost use Rattle.std.specs.List.{list_all};
-ghost use Rattle.bf_try.specs.Grades.{most_items};
-ghost use Rattle.bf_core.specs.Events.{put, with_phase, row_of, cell_at, phase_of, is_open, counts_of_instance, counts_of_instances, counts_of_cell, value_in, instance_of, change_instance, is_made_again, undecided_cells_of, empty_runs_of};
+ghost use Rattle.bf_core.specs.Events.{put, with_phase, row_of, cell_at, phase_of, is_open, value_in, instance_of, change_instance, is_made_again, undecided_cells_of, empty_runs_of};
 ghost use Rattle.bf_core.specs.inner.Events.{is_closed};
-ghost use Rattle.bf_core.specs.Deciding.{one_of};
-ghost use Rattle.bf_core.specs.Few.{IsFew};
 ghost use Rattle.bf_core.specs.inner.Words.{is_finished};
 ghost use Rattle.bf_core.specs.inner.Tries.{changed, IsCountable};
 
-use bf_rule::Counts;
 use bf_try::{EndedTries, Outcome};
 use bf_value::{OutOfMemory, Sequence};
 use bf_xcom::SharedGiven;
@@ -25,39 +21,7 @@ pub enum Phase {
     Finished(Outcome),
 }
 
-const ONE_UNFINISHED: Counts = Counts {
-    success: 0,
-    failed: 0,
-    upstream_failed: 0,
-    skipped: 0,
-    blocked: 0,
-    unfinished: 1,
-};
-
-/// The counts of a single instance that finished with this outcome: 1 for its state, 0 for all others.
-pub fn counts_of_outcome(outcome: &Outcome) -> Counts
-    ensures { result ≡ one_of outcome.now }
-{
-    let mut counts = Counts::NONE;
-    match outcome {
-        Outcome::Success(_) => counts.success = 1,
-        Outcome::Failed => counts.failed = 1,
-        Outcome::Skipped => counts.skipped = 1,
-    }
-    counts
-}
-
 impl Phase {
-    /// The counts of a single instance in this phase: 1 for its state, 0 for all others.
-    fn counts(&self) -> Counts
-        ensures { result ≡ counts_of_instance self.now }
-    {
-        match self {
-            Phase::Finished(outcome) => counts_of_outcome(outcome),
-            Phase::Waiting | Phase::Running => ONE_UNFINISHED,
-        }
-    }
-
     /// Whether the instance is finished: no try of it runs or comes any more.
     fn is_finished(&self) -> bool
         ensures { result ≡ is_finished self.now }
@@ -113,18 +77,6 @@ impl Instance {
     }
 }
 
-/// How many of the instances are in each state.
-fn counts_of(instances: &[Instance]) -> Counts
-    requires { length instances.now ≤ most_items }
-    ensures { result ≡ counts_of_instances instances.now }
-{
-    let mut counts = Counts::NONE;
-    for instance in instances {
-        counts = counts.plus(instance.phase.counts());
-    }
-    counts
-}
-
 /// Whether all instances are finished.
 pub(crate) fn are_finished(instances: &[Instance]) -> bool
     ensures { result ≡ list_all (λ x. is_finished x.phase) instances.now }
@@ -146,29 +98,6 @@ pub enum Cell {
 }
 
 impl Cell {
-    /// How many instances of the task are in each state; a task without instances counts as one.
-    pub(crate) fn counts(&self) -> Counts
-        requires { IsFew self.now }
-        ensures { result ≡ counts_of_cell self.now }
-    {
-        match self {
-            Cell::Undecided => ONE_UNFINISHED,
-            Cell::Blocked => Counts {
-                blocked: 1,
-                ..Counts::NONE
-            },
-            Cell::Skipped => Counts {
-                skipped: 1,
-                ..Counts::NONE
-            },
-            Cell::UpstreamFailed => Counts {
-                upstream_failed: 1,
-                ..Counts::NONE
-            },
-            Cell::Ran(instances) => counts_of(instances.as_slice()),
-        }
-    }
-
     /// Whether the task is settled: decided, and each of its instances finished.
     #[tactic(auto, using(crate::proofs::Sums::finished_settled))]
     pub fn is_settled(&self) -> bool

@@ -1,44 +1,16 @@
 //! What the upstreams say of a task.
-ghost use Rattle.std.specs.Prelude.{◌≡◌, ◌<◌, ◌≤◌, length, is_some};
+ghost use Rattle.std.specs.Prelude.{◌≡◌, ◌<◌, length, is_some};
 ghost use Rattle.std.specs.List.{list_all, list_any};
-ghost use Rattle.bf_rule.specs.Verdicts.{total_of};
 ghost use Rattle.bf_core.specs.Deciding.{branch_is, branch_skips, is_blocked_in, counts_over, lets_decide_in, upstream_verdict_of};
-ghost use Rattle.bf_core.specs.Events.{cell_at, seen_in, counts_of_cell, value_in};
+ghost use Rattle.bf_core.specs.Events.{cell_at, seen_in, value_in};
 ghost use Rattle.bf_core.specs.Few.{AreFew};
 ghost use Rattle.bf_core.specs.inner.Words.{known_to_be, phase_skips_in, instances_skip_in};
 
+use crate::counting::counts_of_upstreams;
 use crate::state::{Cell, Instance, Phase, State, are_finished};
 use bf_plan::{Dag, Plan, Task};
 use bf_rule::{Counts, Verdict, followed, verdict};
 use bf_try::Outcome;
-
-/// How many instances of a task in a run are in each state; a task that isn't there counts as undecided.
-fn counts_at(state: &State, run: u32, task: u32) -> Counts
-    requires { AreFew state.now }
-    ensures counts { result ≡ counts_of_cell (cell_at state.now run task) }
-    ensures few { total_of result ≤ 1_024 }
-{
-    match state.cell(run, task) {
-        Some(cell) => cell.counts(),
-        None => Counts {
-            unfinished: 1,
-            ..Counts::NONE
-        },
-    }
-}
-
-/// How many instances all these upstreams together have in each state, in a run.
-fn counts_of_upstreams(state: &State, run: u32, upstreams: &[u32]) -> Counts
-    requires few { AreFew state.now }
-    requires few_upstreams { length upstreams.now ≤ 20_000 }
-    ensures { result ≡ counts_over (λ u. seen_in (cell_at state.now run u)) upstreams.now }
-{
-    let mut counts = Counts::NONE;
-    for upstream in upstreams {
-        counts = counts.plus(counts_at(state, run, *upstream));
-    }
-    counts
-}
 
 /// Whether a task is decided in a run and all its instances are finished; false where the run or the task isn't there.
 pub(crate) fn is_settled(state: &State, run: u32, task: u32) -> bool
@@ -60,11 +32,23 @@ fn lets_decide(dag: &Dag, state: &State, run: u32, task: &Task, upstream: u32) -
         || (!task.rule.waits_until_settled() && !dag.is_branch(upstream))
 }
 
-/// Whether each of these upstreams lets a task be decided in a run, as in `lets_decide`.
-fn all_let_decide(dag: &Dag, state: &State, run: u32, task: &Task, upstreams: &[u32]) -> bool
+/// Whether each of these upstreams lets a task be decided in a run, as in `lets_decide`. `counts` are those of all their
+/// instances: where the rule waits until all are settled, none is unfinished.
+fn all_let_decide(
+    dag: &Dag,
+    state: &State,
+    run: u32,
+    task: &Task,
+    upstreams: &[u32],
+    counts: &Counts,
+) -> bool
+    requires { counts.now ≡ counts_over (λ u. seen_in (cell_at state.now run u)) upstreams.now }
     ensures { result ≡ list_all (lets_decide_in dag.now task.now
         (λ u. seen_in (cell_at state.now run u))) upstreams.now }
 {
+    if task.rule.waits_until_settled() {
+        return counts.unfinished == 0;
+    }
     upstreams
         .iter()
         .all(|upstream| lets_decide(dag, state, run, task, *upstream))
@@ -184,14 +168,14 @@ pub(crate) fn upstream_verdict(plan: &Plan, state: &State, run: u32, task: u32) 
     let dag = plan.dag();
     let decided = dag.task(task);
     let upstreams = decided.upstreams.as_slice();
-    if !all_let_decide(dag, state, run, decided, upstreams) {
+    let counts = counts_of_upstreams(state, run, upstreams);
+    if !all_let_decide(dag, state, run, decided, upstreams, &counts) {
         Verdict::Wait
     } else if any_branch_skips(plan, state, run, task, upstreams) {
         Verdict::Skip
     } else if any_branch_is_blocked(dag, state, run, upstreams) {
         Verdict::Blocked
     } else {
-        let counts = counts_of_upstreams(state, run, upstreams);
         verdict(decided.rule, &counts)
     }
 }

@@ -7,7 +7,7 @@ ghost use Rattle.bf_value.specs.Distinct.{AreDistinct};
 ghost use Rattle.bf_graph.specs.Shape.{texts};
 ghost use Rattle.bf_graph.specs.Ranks.{Ranking};
 ghost use Rattle.bf_graph.specs.inner.Climbs.{AreAllFound};
-ghost use Rattle.bf_graph.specs.Reach.{Reaches};
+ghost use Rattle.bf_graph.specs.Reach.{IsRow, Reaches};
 ghost use Rattle.bf_graph.specs.Lookups.{IsRisingListOf, IsLeaf};
 ghost use Rattle.bf_graph.specs.Order.{IsByRank, StandBehind};
 ghost use Rattle.bf_graph.specs.inner.Order.{pair_cmp, ranked_tasks};
@@ -100,6 +100,14 @@ impl Graph {
         ensures { IsRank self.now.upstreams task result }
     {
         self.ranks[task as usize]
+    }
+
+    /// For each task in file order, whether a path of one edge or more leads from it down to a task.
+    pub fn reaching(&self, task: u32) -> &[bool]
+        requires { task < length self.now.upstreams }
+        ensures { IsRow self.now.upstreams (length self.now.upstreams) task result.now }
+    {
+        self.rows[task as usize].as_slice()
     }
 
     /// Whether a path of one edge or more leads from the task `from` down to the task `to`.

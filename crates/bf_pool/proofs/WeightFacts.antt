@@ -1,24 +1,27 @@
 -- The tasks that count for a task, as a list and as a test.
-use Rattle.std.proofs.Common.{Result, Ok, Err, IfOk, ◌≡◌, inl, inr, ℕ, zero, suc, ◌+◌, ◌<◌, ◌≤◌, ◌==◌, ◌||◌, cond, Bool, true, false, List, [], ◌∷◌, length, All, AllPairs, Contains, refl, sym, ap, ◌∙◌, subst, arith, true≢false}
-use Rattle.std.specs.List.{list_any, filter, range_with_len}
-use Rattle.std.proofs.lemmas.Bool.{cases_Bool, cases_lt, eqb-true, eq-eqb}
+use Rattle.std.proofs.Common.{Result, Ok, Err, IfOk, ◌≡◌, inl, inr, ℕ, zero, suc, ◌+◌, ◌*◌, ◌<◌, ◌≤◌, ◌==◌, ◌||◌, cond, Bool, true, false, List, [], ◌∷◌, length, get_or, All, AllPairs, Contains, refl, sym, ap, ◌∙◌, subst, arith, true≢false}
+use Rattle.std.specs.List.{list_any, filter, range_with_len, sum_by}
+use Rattle.std.proofs.Math.ListN.{get_or-eq_default}
+use Rattle.std.proofs.lemmas.Bool.{cases_Bool, cases_lt, eqb-true, eq-eqb, false_from_ne_true}
 use Rattle.std.proofs.lemmas.List.Kept.{AllPairs-from_increasing}
 use Rattle.std.proofs.lemmas.List.{length-map}
 use Rattle.std.proofs.lemmas.List.Elements.{All-filter}
+use Rattle.std.proofs.lemmas.List.Sums.{sum_by-cons, sum_by-le}
 use Rattle.std.proofs.lemmas.List.FromFn.{length-range_with_len, get_or-range_with_len}
 use Rattle.std.proofs.lemmas.Map.Made.{Contains-tail}
 use Rattle.bf_graph.specs.Edges.{upstreams_of, AreInRange}
 use Rattle.bf_graph.specs.Ranks.{Ranking}
-use Rattle.bf_graph.specs.Reach.{IsPath, Reaches}
+use Rattle.bf_graph.specs.Reach.{IsPath, IsRow, Reaches, is_marked_in}
 use Rattle.bf_graph.specs.Lookups.{IsRisingListOf}
 use Rattle.bf_graph.proofs.PathLemmas.{task_within, first_edge}
 use Rattle.bf_plan.specs.declared.plan.Task.{Task}
 use Rattle.bf_plan.specs.declared.plan.Dag.{Dag}
 use Rattle.bf_plan.specs.Plans.{shape_of}
-use Rattle.bf_plan.specs.Sound.{IsSound, IsOneOf}
+use Rattle.bf_plan.specs.declared.plan.Limits.{Limits}
+use Rattle.bf_plan.specs.Sound.{IsSound, IsOneOf, demand_of}
 use Rattle.bf_plan.proofs.PlanLemmas.{one_contained, upstreams_of_task}
 use Rattle.bf_plan.proofs.ListLemmas.{any_contained}
-use Rattle.bf_pool.specs.Weights.{leads_within, does_reach}
+use Rattle.bf_pool.specs.Weights.{leads_within, does_reach, weight_sum_of}
 
 -- ---- what a sound plan tells
 
@@ -169,3 +172,56 @@ few_kept p a (suc n) = elim (cases_Bool (p a)) as (λ _. length (cond (p a) (a �
 pub if_ok : {A E : Type 0} (P Q : A → Type 0) (r : Result A E) → ((a : A) → P a → Q a) → IfOk r P → IfOk r Q
 if_ok P Q (Ok a) f h = f a h
 if_ok P Q (Err e) f h = tt
+
+-- ---- sums over more tasks
+
+module _ (f : ℕ → ℕ) (p : ℕ → Bool) where
+  -- what a number adds to the sum over those that pass
+  abbrev pub added : ℕ → ℕ
+  added n = cond (p n) (f n) 0
+
+  sum_with_first : (x : ℕ) (xs : List ℕ) → sum_by f (filter p (x ∷ xs)) ≡ added x + sum_by f (filter p xs)
+  sum_with_first x xs = elim (cases_Bool (p x)) as (λ _. sum_by f (cond (p x) (x ∷ filter p xs) (filter p xs)) ≡ cond (p x) (f x) 0 + sum_by f (filter p xs)) [
+    | inl passed ↦ rw passed (sum_by-cons f x (filter p xs))
+    | inr failed ↦ rw failed (omega arith)
+  ]
+
+  pub sum_with_last : (a n : ℕ) → sum_by f (filter p (range_with_len a (suc n))) ≡ sum_by f (filter p (range_with_len a n)) + added (a + n)
+  sum_with_last a zero = let same : added (a + 0) ≡ added a = ap added (omega arith) in let all = sum_with_first a [] in omega (arith, all, same)
+  sum_with_last a (suc n) =
+      let same : added ((a + 1) + n) ≡ added (a + suc n) = ap added (omega arith) in
+      let all = sum_with_first a (range_with_len (a + 1) (suc n)) in
+      let but_last = sum_with_first a (range_with_len (a + 1) n) in
+      omega (arith, all, but_last, sum_with_last (a + 1) n, same)
+
+module _ (limits : Limits) (light : (t : ℕ) → (demand_of limits t).weight ≤ 1_000_000) where
+  pub sum_is_light : (p : ℕ → Bool) (n : ℕ) → weight_sum_of limits (filter p (range_with_len 0 n)) ≤ n * 1_000_000
+  sum_is_light p n =
+      let xs = filter p (range_with_len 0 n) in
+      let all = sum_by-le (λ t. (demand_of limits t).weight) 1_000_000 xs (λ k d h. light (get_or xs k d)) in
+      omega (arith, all, few_kept p 0 n)
+
+  pub sums_are_light : (p : ℕ → ℕ → Bool) (sums : List ℕ) (n u : ℕ) → length sums ≡ n → ((t : ℕ) → t < n → get_or sums t 0 ≡ weight_sum_of limits (filter (p t) (range_with_len 0 u))) →
+      (t : ℕ) → get_or sums t 0 ≤ u * 1_000_000
+  sums_are_light p sums n u len are t = elim (cases_lt t n) as (λ _. get_or sums t 0 ≤ u * 1_000_000) [
+    | inl lt ↦ omega (arith, are t lt, sum_is_light (p t) u)
+    | inr ge ↦ let none : get_or sums t 0 ≡ 0 = get_or-eq_default sums 0 (omega (arith, ge, len)) in omega (arith, none)
+  ]
+
+module _ (ups : List (List ℕ)) (r : Ranking ups) (n u : ℕ) (row : List Bool) (is : IsRow ups n u row) where
+  -- a mark says what the test does
+  mark_is_test : (t : ℕ) → t < n → is_marked_in row t ≡ does_reach ups t u
+  mark_is_test t h = elim (cases_Bool (does_reach ups t u)) [
+    | inl leads ↦ (is.right t h).1 (reach_path ups t u leads) ∙ sym leads
+    | inr none ↦ false_from_ne_true (is_marked_in row t) (λ marked. true≢false (sym (reach_test ups r t u ((is.right t h).0 marked)) ∙ none)) ∙ sym none
+  ]
+
+  -- the sum so far and what the mark adds to it
+  pub sum_with_marked : (limits : Limits) (t : ℕ) → t < n →
+      weight_sum_of limits (filter (does_reach ups t) (range_with_len 0 u)) + cond (is_marked_in row t) (demand_of limits u).weight 0
+      ≡ weight_sum_of limits (filter (does_reach ups t) (range_with_len 0 (u + 1)))
+  sum_with_marked limits t h =
+      let same : cond (is_marked_in row t) (demand_of limits u).weight 0 ≡ added (λ v. (demand_of limits v).weight) (does_reach ups t) u = ap (λ b. cond b (demand_of limits u).weight 0) (mark_is_test t h) in
+      let last : added (λ v. (demand_of limits v).weight) (does_reach ups t) (0 + u) ≡ added (λ v. (demand_of limits v).weight) (does_reach ups t) u = ap (added (λ v. (demand_of limits v).weight) (does_reach ups t)) (omega arith) in
+      let next : weight_sum_of limits (filter (does_reach ups t) (range_with_len 0 (suc u))) ≡ weight_sum_of limits (filter (does_reach ups t) (range_with_len 0 (u + 1))) = let one : suc u ≡ u + 1 = omega arith in ap (λ k. weight_sum_of limits (filter (does_reach ups t) (range_with_len 0 k))) one in
+      omega (arith, same, last, next, sum_with_last (λ v. (demand_of limits v).weight) (does_reach ups t) 0 u)

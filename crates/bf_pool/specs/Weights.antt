@@ -1,5 +1,5 @@
 -- What a task weighs when instances wait for room in a pool (Airflow's "Priority Weights").
-use Rattle.std.specs.Prelude.{ℕ, zero, suc, ◌+◌, ◌==◌, ◌||◌, Bool, false, List, length}
+use Rattle.std.specs.Prelude.{◌≡◌, ℕ, zero, suc, ◌+◌, ◌<◌, ◌==◌, ◌||◌, Bool, false, List, length, slice_index}
 use Rattle.std.specs.List.{list_any, filter, range_with_len, sum_by}
 use Rattle.bf_graph.specs.Edges.{upstreams_of}
 use Rattle.bf_plan.specs.declared.kinds.WeightRule.{WeightRule}
@@ -36,3 +36,9 @@ abbrev pub total_weight_of : Dag → Limits → ℕ → ℕ
 total_weight_of dag limits t =
     let own = demand_of limits t in own.weight + weight_sum_of limits
     (tasks_counting own.weight_rule (shape_of dag).upstreams t)
+
+-- the total weight of each task
+abbrev pub AreWeights : Dag → Limits → List ℕ → Type 0
+AreWeights dag limits weights =
+    (task : ℕ) → task < length dag.tasks → slice_index weights task
+    ≡ total_weight_of dag limits task

@@ -11,4 +11,4 @@ mod weights;
 
 pub use laws::reaches_where_a_path_leads;
 pub use pools::{NoRoom, Pools};
-pub use weights::total_weight;
+pub use weights::{total_weight, total_weights_of};

@@ -5,7 +5,7 @@ use Rattle.std.proofs.lemmas.Bool.{ltb-true}
 use Rattle.bf_value.specs.declared.name.JobName.{JobName}
 use Rattle.bf_plan.specs.declared.plan.Dag.{Dag}
 use Rattle.bf_plan.specs.declared.plan.Limits.{Limits}
-use Rattle.bf_pool.specs.Weights.{total_weight_of}
+use Rattle.bf_pool.specs.Weights.{AreWeights, total_weight_of}
 use Rattle.bf_try.specs.Tries.{name_of}
 use Rattle.bf_core.specs.declared.event.Event.{Event}
 use Rattle.bf_core.specs.declared.state.Phase.{Phase}
@@ -14,7 +14,7 @@ use Rattle.bf_core.specs.Events.{cell_at, instance_of}
 use Rattle.bf_core.specs.inner.Checks.{HasRows}
 use Rattle.bf_core.specs.Cores.{Backfill, IsReplay, MayCome}
 use Rattle.bf_core.proofs.Enabling.{present_there}
-use Rattle.bf_waiting.specs.Choices.{IsPreferred, NameComesBefore, IsNextTry, AreWeights}
+use Rattle.bf_waiting.specs.Choices.{IsPreferred, NameComesBefore, IsNextTry}
 use Rattle.bf_rescan.specs.inner.Looks.{IsBest, IsTryAt, IsTryBefore, IsTryOf, weightier_try_of}
 use Rattle.bf_waiting.specs.Standings.{instances_of}
 use Rattle.bf_rescan.proofs.Present.{IsTryBelow, one_named, named_so, below_count, last_task, one_more_task, last_run, one_more_run}

@@ -2,7 +2,8 @@
 ghost use Rattle.std.specs.Prelude.{◌≡◌, ◌<◌, ◌≤◌, ◌+◌, length, Some};
 ghost use Rattle.bf_core.specs.Cores.{IsThere};
 ghost use Rattle.bf_core.specs.Events.{cell_at, instance_of};
-ghost use Rattle.bf_waiting.specs.Choices.{IsNextTry, AreWeights};
+ghost use Rattle.bf_pool.specs.Weights.{AreWeights};
+ghost use Rattle.bf_waiting.specs.Choices.{IsNextTry};
 ghost use Rattle.bf_rescan.specs.inner.Looks.{IsBest, IsTryAt, IsTryBefore, IsTryOf, weightier_try_of};
 
 use bf_core::{Core, Instance, name_of};

@@ -1,9 +1,9 @@
 //! What is kept beside what a look finds.
 use bf_core::Event;
+use bf_pool::total_weights_of;
 use bf_rescan::{next_moment, next_step, next_try};
 use bf_sched::Ready;
 use bf_value::OutOfMemory;
-use bf_waiting::total_weights_of;
 use std::alloc::Global;
 use std::process::Abort;
 use std::test::Fail;

@@ -1,5 +1,5 @@
 -- Which try begins next, and which moment is waited for.
-use Rattle.std.specs.Prelude.{◌≡◌, ◌⊎◌, ℕ, ◌<◌, ◌≤◌, ℤ, ◌≤ℤ◌, List, length, slice_index, Option, None, Some}
+use Rattle.std.specs.Prelude.{◌≡◌, ◌⊎◌, ℕ, ◌<◌, ◌≤◌, ℤ, ◌≤ℤ◌, Option, None, Some}
 use Rattle.bf_value.specs.declared.name.JobName.{JobName}
 use Rattle.bf_plan.specs.declared.plan.Dag.{Dag}
 use Rattle.bf_plan.specs.declared.plan.Limits.{Limits}
@@ -9,12 +9,6 @@ use Rattle.bf_core.specs.Cores.{Backfill, MayCome, WaitsLater}
 use Rattle.bf_core.specs.Events.{place_in}
 
 -- ---- tries
-
--- the total weight of each task
-abbrev pub AreWeights : Dag → Limits → List ℕ → Type 0
-AreWeights dag limits weights =
-    (task : ℕ) → task < length dag.tasks → slice_index weights task
-    ≡ total_weight_of dag limits task
 
 -- by run, then in the order of the file, then by map index
 abbrev pub NameComesBefore : Dag → JobName → JobName → Type 0

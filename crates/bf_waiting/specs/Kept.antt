@@ -6,7 +6,7 @@ use Rattle.bf_plan.specs.Sound.{demand_of}
 use Rattle.bf_core.specs.declared.event.Event.{Event}
 use Rattle.bf_core.specs.Cores.{Backfill, IsReplay, MayCome, moved}
 use Rattle.bf_waiting.specs.declared.waiting.Waiting.{Waiting}
-use Rattle.bf_waiting.specs.Choices.{AreWeights}
+use Rattle.bf_pool.specs.Weights.{AreWeights}
 use Rattle.bf_waiting.specs.Classes.{HasRoom, Waits}
 use Rattle.bf_waiting.specs.Keeping.{KeepsWaiting}
 

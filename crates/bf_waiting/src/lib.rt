@@ -14,4 +14,4 @@ mod weight;
 
 pub use instances::instances_of;
 pub use waiting::{Waiting, earlier_moment};
-pub use weight::{total_weights_of, weight_of};
+pub use weight::weight_of;

@@ -2,13 +2,14 @@
 ghost use Rattle.std.specs.Prelude.{◌≡◌, ◌<◌, ◌+◌, ◌↔◌, Bool, length, slice_index, IfSome, IfNone, MatchOption, OnOk, ℕ, IfOk, IsTrue, slice_get, None, Some, Contains};
 ghost use Rattle.bf_value.specs.declared.name.JobName.{JobName};
 ghost use Rattle.bf_plan.specs.Sound.{demand_of};
+ghost use Rattle.bf_pool.specs.Weights.{AreWeights};
 ghost use Rattle.bf_xcom.specs.declared.values.Outcome.{Outcome};
 ghost use Rattle.bf_core.specs.declared.event.Event.{Event};
 ghost use Rattle.bf_core.specs.Cores.{Backfill, deciding};
 ghost use Rattle.bf_core.specs.Events.{has_room_in};
 ghost use Rattle.bf_waiting.specs.inner.Keeping.{IsOfPlace};
 ghost use Rattle.bf_waiting.specs.Kept.{HasRoomFor, HasRoomOf, KeepsTries, KeepsTriesOver, IsClassOf};
-ghost use Rattle.bf_waiting.specs.Choices.{AreWeights, IsNextMoment, IsNextTry};
+ghost use Rattle.bf_waiting.specs.Choices.{IsNextMoment, IsNextTry};
 ghost use Rattle.bf_waiting.specs.inner.Filling.{AreClassedTo, AreEmpty, AreFilled};
 ghost use Rattle.bf_waiting.specs.inner.Heaps.{Leads};
 ghost use Rattle.bf_waiting.specs.Looks.{earlier_moment_of};
@@ -19,9 +20,9 @@ ghost use Rattle.bf_waiting.specs.declared.batches.Batch.{Batch};
 use crate::batches::Batch;
 use crate::class::SlotClass;
 use crate::instances::instances_of;
-use crate::weight::total_weights_of;
 use bf_core::{Core, Event, name_of, place_of};
 use bf_plan::Plan;
+use bf_pool::total_weights_of;
 use bf_value::{JobName, OutOfMemory};
 use std::alloc::Global;
 

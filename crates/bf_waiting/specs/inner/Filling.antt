@@ -6,7 +6,7 @@ use Rattle.bf_core.specs.Cores.{Backfill}
 use Rattle.bf_waiting.specs.declared.batches.Batch.{Batch}
 use Rattle.bf_waiting.specs.declared.delays.Delay.{Delay}
 use Rattle.bf_waiting.specs.declared.waiting.Waiting.{Waiting}
-use Rattle.bf_waiting.specs.Choices.{AreWeights}
+use Rattle.bf_pool.specs.Weights.{AreWeights}
 use Rattle.bf_waiting.specs.Classes.{HasBatch, Waits, delay_of}
 use Rattle.bf_waiting.specs.Keeping.{IsLive, IsOfClass}
 use Rattle.bf_waiting.specs.Kept.{IsClassOf}

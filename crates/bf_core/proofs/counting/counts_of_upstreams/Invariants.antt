@@ -2,7 +2,7 @@ use Rattle.std.proofs.Common.{◌≡◌, ◌≤◌, ◌*◌, drop}
 use Rattle.bf_rule.specs.Verdicts.{total_of, add}
 use Rattle.bf_core.specs.Events.{cell_at, seen_in}
 use Rattle.bf_core.specs.Deciding.{counts_over}
-use Rattle.bf_core.proofs.upstreams.counts_of_upstreams.Given as goal
+use Rattle.bf_core.proofs.counting.counts_of_upstreams.Given as goal
 
 abbrev pub invariant-loop-upstream : goal.invariant-loop-upstream
 invariant-loop-upstream l = record {
