@@ -21,9 +21,9 @@ program, work, generator = sys.argv[1:]
 FIRST_DAY = datetime.date(2000, 1, 1)
 
 
-def graph_of(tasks, active_runs=16):
-    """A graph of so many tasks, of which each has five upstreams, as nearly as there can be, and of which so many runs may be open."""
-    edges = sum(min(5, task) for task in range(tasks))
+def graph_of(tasks, active_runs=16, upstreams=5):
+    """A graph of so many tasks, of which each has so many upstreams, or as many as there can be, and of which so many runs may be open."""
+    edges = sum(min(upstreams, task) for task in range(tasks))
     text = subprocess.run([sys.executable, generator, str(tasks), str(edges)], stdout=subprocess.PIPE, check=True, text=True)
     return json.dumps({**json.loads(text.stdout), "max_active_runs": active_runs})
 
@@ -83,12 +83,13 @@ def measured(dry, floor, instances):
 
 
 for name, graph, table, runs, instances, floor in (
-    ("1,000 tasks x 100 runs", graph_of(1_000), "[]", 100, 100_000, "1000 100 16"),
-    ("2,000 tasks x 100 runs", graph_of(2_000), "[]", 100, 200_000, "2000 100 16"),
-    ("200 tasks x 500 runs", graph_of(200), "[]", 500, 100_000, "200 500 16"),
-    ("200 tasks x 1,000 runs", graph_of(200), "[]", 1_000, 200_000, "200 1000 16"),
-    ("200 tasks x 1,000 runs, 1 open", graph_of(200, 1), "[]", 1_000, 200_000, "200 1000 1"),
-    ("200 tasks x 1,000 runs, 1,000 open", graph_of(200, 4_096), "[]", 1_000, 200_000, "200 1000 4096"),
+    ("1,000 tasks x 100 runs", graph_of(1_000), "[]", 100, 100_000, "1000 5 100 16"),
+    ("2,000 tasks x 100 runs", graph_of(2_000), "[]", 100, 200_000, "2000 5 100 16"),
+    ("2,000 tasks x 100 runs, ten upstreams each", graph_of(2_000, upstreams=10), "[]", 100, 200_000, "2000 10 100 16"),
+    ("200 tasks x 500 runs", graph_of(200), "[]", 500, 100_000, "200 5 500 16"),
+    ("200 tasks x 1,000 runs", graph_of(200), "[]", 1_000, 200_000, "200 5 1000 16"),
+    ("200 tasks x 1,000 runs, 1 open", graph_of(200, 1), "[]", 1_000, 200_000, "200 5 1000 1"),
+    ("200 tasks x 1,000 runs, 1,000 open", graph_of(200, 4_096), "[]", 1_000, 200_000, "200 5 1000 4096"),
     ("200 tasks x 1,000 runs, an entry for each task", graph_of(200), entries(200), 1_000, 200_000, ""),
     ("512 items x 50 runs", mapped(), items(512), 50, 513 * 50, "items 512 50"),
     ("1,024 items x 50 runs", mapped(), items(1_024), 50, 1_025 * 50, "items 1024 50"),

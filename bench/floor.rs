@@ -1,7 +1,7 @@
 //! The least that a backfill without programs costs, to hold `backfill dry` beside: all tries succeed, one after the other.
 //!
-//! `floor TASKS RUNS OPEN` backfills tasks that each wait for the five before them, with at most OPEN runs open at once; `floor items COUNT RUNS`
-//! a task that is expanded over a list of so many numbers, with 16 open. Each run has a count of unsettled upstreams a task, its instances
+//! `floor TASKS UPSTREAMS RUNS OPEN` backfills tasks that each wait for so many before them, with at most OPEN runs open at once; `floor items COUNT
+//! RUNS` a task that is expanded over a list of so many numbers, with 16 open. Each run has a count of unsettled upstreams a task, its instances
 //! with items and outcomes, and a count of unsettled tasks; tries that are ready stand in a heap by run, task and map index; each event is
 //! noted in a journal. The report that it prints at the end is the one that `dry` prints of such a graph, byte for byte. It knows no other
 //! rule than all_success, no retries, pools, past, moments or ledger, checks nothing, and gives up where memory is wanting.
@@ -200,12 +200,12 @@ fn day_after((year, month, day): Date) -> Date {
     }
 }
 
-/// Tasks of which each waits for the five before it, or all where there are fewer.
-fn chained(count: u32) -> Vec<Task> {
+/// Tasks of which each waits for so many before it, or all where there are fewer.
+fn chained(count: u32, upstreams: u32) -> Vec<Task> {
     let made = (0..count).map(|task| Task {
         id: format!("t{task}"),
-        upstreams: task.min(5),
-        downstreams: (task + 1..count.min(task + 6)).collect(),
+        upstreams: task.min(upstreams),
+        downstreams: (task + 1..count.min(task + upstreams + 1)).collect(),
         is_expanded: false,
         pushes: None,
     });
@@ -227,13 +227,13 @@ fn expanded(count: i64) -> Vec<Task> {
 
 fn main() -> Result<(), Box<dyn std::error::Error>> {
     let words: Vec<String> = std::env::args().skip(1).collect();
-    let [first, second, third] = words.as_slice() else {
-        return Err("floor TASKS RUNS OPEN, or floor items COUNT RUNS".into());
-    };
-    let (tasks, dag_id, runs, most_open) = if first == "items" {
-        (expanded(second.parse()?), "d", third.parse()?, 16)
-    } else {
-        (chained(first.parse()?), "bench", second.parse()?, third.parse()?)
+    let words: Vec<&str> = words.iter().map(String::as_str).collect();
+    let (tasks, dag_id, runs, most_open) = match words.as_slice() {
+        ["items", count, runs] => (expanded(count.parse()?), "d", runs.parse()?, 16),
+        [tasks, upstreams, runs, open] => {
+            (chained(tasks.parse()?, upstreams.parse()?), "bench", runs.parse()?, open.parse()?)
+        }
+        _ => return Err("floor TASKS UPSTREAMS RUNS OPEN, or floor items COUNT RUNS".into()),
     };
     let mut backfill = Backfill {
         tasks,
