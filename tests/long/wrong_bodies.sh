@@ -1,20 +1,21 @@
 #!/usr/bin/env bash
 # Tries the wrong bodies in crates/NAME/wrong-bodies/, each of which the prover has to refuse: tests/long/wrong_bodies.sh [CRATE ..], by
-# itself those of all crates. Each is laid into a copy of its crate that `rt check` then looks at, over what it keeps in crates/NAME/out of
-# the crate and of those below it: so only what the edit touches is proved again. What isn't kept is proved first, so begin with
-# `rt all check`. As many crates are tried side by side as WORKERS says, else as there are processors, at 5 GB for each. All that is
-# said stands in out/wrong_bodies.log. The last line is `N refused, M not`. Those that weren't refused, couldn't be applied or read, or took
-# away a name that a proof cites (which says nothing of the contract) are named above it, and then the status is 1.
+# itself those of all crates. Each is laid into a copy of its crate that `rt check` then looks at, over what it keeps of the crate itself and
+# of those below it, so that only what the edit touches is proved again: begin with `rt all check` in crates/. As many crates are tried side by
+# side as WORKERS says, else as there are processors, where memory has 5 GB for each. All that is said stands in out/wrong_bodies.log. The
+# last line is `N refused, M not`. Those that weren't refused, couldn't be applied or read, weren't tried, or took away a name that a proof
+# cites (which says nothing of the contract) are named above it, and then the status is 1.
 set -euo pipefail
 
 source "$(dirname "$(readlink -f "${BASH_SOURCE[0]}")")/../../bench/crates.sh"
 source "$root/tests/shared/side_by_side.sh"
 log=$root/out/wrong_bodies.log
 results=$work/results
+workers=${WORKERS:-$(side_by_side)}
 
 crates=("$@")
 if [[ $# -eq 0 ]]; then
-    # Those that the most stands on come first.
+    # The lowest come first.
     while read -r crate; do
         [[ ! -d $root/crates/$crate/wrong-bodies ]] || crates+=("$crate")
     done < <(sed -n 's/^\([a-z_]*\):.*/\1/p' "$root/crates.txt" | tac)
@@ -26,104 +27,91 @@ for crate in "${crates[@]}"; do
     fi
 done
 
-# Applies an edit to the crate in this folder: each `old:` stands once in the file as the pairs above it left that, and becomes `new:`.
-apply() {
-    python3 - "$1" <<'PY'
-import sys
-
-file = old = None
-for line in open(sys.argv[1], encoding="utf-8").read().splitlines():
-    word, _, text = line.partition(": ")
-    if word == "file":
-        file = text.strip()
-    elif word == "old":
-        old = text
-    elif word == "new":
-        whole = open(file, encoding="utf-8").read()
-        if whole.count(old) != 1:
-            sys.exit(f"it can't be applied: the old text stands {whole.count(old)} times in {file}")
-        open(file, "w", encoding="utf-8").write(whole.replace(old, text))
-PY
+wrong_body() {
+    python3 -B "$root/tests/long/wrong_body.py" "$@"
 }
 
-# What a check came to that has to refuse an edit. It counts as refused where more than a name that a proof cites is missing.
-verdict_of() {
-    local said=$1
-    if grep -E '^(\./)?(src|specs)/[^ ]+:[0-9]+:[0-9]+: error: ' "$said" | grep -qvE ' error: `[^`]*`: '; then
-        echo "the prover can't read the edited text"
-    elif grep -q '^logic=proved' "$said"; then
-        echo 'NOT REFUSED: the crate is still proved with this edit'
-    elif ! grep -q '^logic=not-proved' "$said"; then
-        echo 'the prover came to no verdict'
-    elif grep -E '^(note: [^ ]+:[0-9]+:[0-9]+: |[^ ]+:[0-9]+:[0-9]+: error: )' "$said" \
-        | grep -qvE '^(\./)?proofs/.*(has no field|is not in scope|has no `|was not admitted)'; then
-        echo refused
-    else
-        echo 'only a name that a proof cites is missing'
-    fi
-}
-
-# Tries the wrong bodies of a crate in a copy, and notes what each came to.
-try_crate() {
-    local crate=$1 edit said library verdict
-    local work=$work/$crate
+# Lays out a crate and those below it in `work`, with what `rt check` keeps of them. Says which library isn't kept.
+lay_out_kept() {
+    local crate=$1 library kept
     mkdir -p "$work/.git"
     cp "$root/HANDLES" "$work"
     lay_out "$crate"
     for library in "$work"/crates/*; do
-        library=${library##*/}
-        [[ ! -d $root/crates/$library/out/rlib ]] || {
-            mkdir "$work/crates/$library/out"
-            cp -Rl "$root/crates/$library/out/rlib" "$work/crates/$library/out"
-        }
+        mkdir "$library/out"
+        kept=$root/crates/${library##*/}/out
+        if [[ ${library##*/} == "$crate" ]]; then
+            [[ ! -d $kept/incremental ]] || cp -R "$kept/incremental" "$library/out"
+        elif [[ -e $kept/rlib/stamp ]]; then
+            cp -Rl "$kept/rlib" "$library/out" 2> /dev/null || cp -R "$kept/rlib" "$library/out"
+        else
+            echo "${library##*/} isn't kept"
+            return 1
+        fi
     done
-    mkdir -p "$work/crates/$crate/out"
-    [[ ! -d $root/crates/$crate/out/incremental ]] || cp -R "$root/crates/$crate/out/incremental" "$work/crates/$crate/out"
+}
+
+# Checks the crate in this folder, and says what came of it.
+check() {
+    local status=0
+    rt check --jobs 1 > "$work/said" 2>&1 || status=$?
+    cat "$work/said"
+    return "$status"
+}
+
+# Tries the wrong bodies of a crate in a copy, and notes what each came to, where the crate itself is proved before and after.
+try_crate() {
+    local crate=$1 edit status verdict
+    local work=$work/$crate
+    lay_out_kept "$crate" || return
     cd "$work/crates/$crate"
-    said=$work/said
-    rt check --jobs 1 > "$said" 2>&1 || true
-    if ! grep -q '^logic=proved' "$said"; then
-        cat "$said"
-        echo "$crate: the crate itself isn't proved" >> "$results"
-        return
-    fi
+    check || return
     cp -R src "$work/src"
     for edit in "$root/crates/$crate/wrong-bodies"/*.edit; do
         echo "== $crate/${edit##*/}"
-        if apply "$edit" > "$said" 2>&1; then
-            rt check --jobs 1 > "$said" 2>&1 || true
-            verdict=$(verdict_of "$said")
+        if wrong_body apply "$edit" > "$work/said" 2>&1; then
+            status=0
+            check || status=$?
+            verdict=$(wrong_body verdict "$work/said" "$status")
         else
-            verdict=$(< "$said")
+            verdict=$(< "$work/said")
         fi
-        cat "$said"
-        echo "$crate/${edit##*/}: $verdict" >> "$results"
+        echo "$crate/${edit##*/}: $verdict" | tee -a "$work/results"
         rm -R src
         cp -R "$work/src" src
     done
+    check || return
+    cat "$work/results" >> "$results"
     rm -R "$work"
 }
 
 mkdir -p "${log%/*}"
-: > "$results"
+touch "$results"
 for crate in "${crates[@]}"; do
-    while [[ $(jobs -rp | wc -l) -ge ${WORKERS:-$(side_by_side)} ]]; do
+    while [[ $(jobs -rp | wc -l) -ge $workers ]]; do
         wait -n || true
     done
     (try_crate "$crate") > "$work/said.$crate" 2>&1 &
 done
-wait
+wait || true
 for crate in "${crates[@]}"; do
     cat "$work/said.$crate"
 done > "$log"
 
-sort "$results" | grep -v ': refused$' || true
-refused=$(grep -c ': refused$' "$results" || true)
-asked=0
+refused=0
+others=0
 for crate in "${crates[@]}"; do
-    edits=("$root/crates/$crate/wrong-bodies"/*.edit)
-    asked=$((asked + ${#edits[@]}))
+    for edit in "$root/crates/$crate/wrong-bodies"/*.edit; do
+        name=$crate/${edit##*/}
+        line=$(grep -F -m 1 "$name: " "$results" || echo "$name: not tried")
+        if [[ $line == "$name: refused" ]]; then
+            refused=$((refused + 1))
+        else
+            others=$((others + 1))
+            echo "$line"
+        fi
+    done
 done
-[[ $refused -eq $asked ]] || echo "all that was said stands in $log"
-echo "$refused refused, $((asked - refused)) not"
-[[ $refused -eq $asked ]]
+[[ $others -eq 0 ]] || echo "all that was said stands in $log"
+echo "$refused refused, $others not"
+[[ $others -eq 0 ]]

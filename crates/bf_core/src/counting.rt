@@ -9,7 +9,7 @@ use crate::state::{Cell, Instance, Phase, State};
 use bf_rule::Counts;
 use bf_try::Outcome;
 
-/// Counts one instance more, which finished with this outcome.
+/// Counts one more instance, which finished with this outcome.
 fn add_outcome(counts: &mut Counts, outcome: &Outcome)
     requires { total_of counts.old + 1 < 2 ^ 32 }
     ensures { counts.new ≡ add counts.old (one_of outcome.now) }
@@ -30,7 +30,7 @@ pub fn counts_of_outcome(outcome: &Outcome) -> Counts
     counts
 }
 
-/// Counts one instance more, which is in this phase.
+/// Counts one more instance, which is in this phase.
 fn add_phase(counts: &mut Counts, phase: &Phase)
     requires { total_of counts.old + 1 < 2 ^ 32 }
     ensures { counts.new ≡ add counts.old (counts_of_instance phase.now) }
@@ -41,7 +41,7 @@ fn add_phase(counts: &mut Counts, phase: &Phase)
     }
 }
 
-/// Counts these instances too.
+/// Adds these instances to the counts.
 fn add_instances(counts: &mut Counts, instances: &[Instance])
     requires { total_of counts.old + length instances.now < 2 ^ 32 }
     ensures { counts.new ≡ add counts.old (counts_of_instances instances.now) }
@@ -51,7 +51,7 @@ fn add_instances(counts: &mut Counts, instances: &[Instance])
     }
 }
 
-/// Counts the instances of a task too; one without instances counts as one.
+/// Adds the instances of a task to the counts; a task without instances counts as one.
 fn add_cell(counts: &mut Counts, cell: &Cell)
     requires few { IsFew cell.now }
     requires room { total_of counts.old + 1_024 < 2 ^ 32 }
@@ -66,7 +66,7 @@ fn add_cell(counts: &mut Counts, cell: &Cell)
     }
 }
 
-/// Counts the instances of a task in a run too; a task that isn't there counts as undecided.
+/// Adds the instances of a task in a run to the counts; a task that isn't there counts as undecided.
 fn add_task(counts: &mut Counts, state: &State, run: u32, task: u32)
     requires few { AreFew state.now }
     requires room { total_of counts.old + 1_024 < 2 ^ 32 }

@@ -1,5 +1,5 @@
 //! The state of a backfill: what each part of it is, and how that is read and changed.
-ghost use Rattle.std.specs.Prelude.{◌≡◌, ◌<◌, ◌↔◌, ◌≤◌, ◌&&◌, length, IsSome, IfSome, IfNone, is_some, IfOk};
+ghost use Rattle.std.specs.Prelude.{◌≡◌, ◌<◌, ◌↔◌, ◌&&◌, length, IsSome, IfSome, IfNone, is_some, IfOk};
 ghost use Rattle.std.specs.List.{list_all};
 ghost use Rattle.bf_core.specs.Events.{put, with_phase, row_of, cell_at, phase_of, is_open, value_in, instance_of, change_instance, is_made_again, undecided_cells_of, empty_runs_of};
 ghost use Rattle.bf_core.specs.inner.Events.{is_closed};

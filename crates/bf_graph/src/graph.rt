@@ -102,7 +102,7 @@ impl Graph {
         self.ranks[task as usize]
     }
 
-    /// For each task in file order, whether a path of one edge or more leads from it down to a task.
+    /// For each task in file order, whether a path of one edge or more leads from it down to `task`.
     pub fn reaching(&self, task: u32) -> &[bool]
         requires { task < length self.now.upstreams }
         ensures { IsRow self.now.upstreams (length self.now.upstreams) task result.now }

@@ -86,7 +86,7 @@ fn sums_below(alloc: Global, plan: &Plan) -> Result<Vec<u32>, OutOfMemory>
     Ok(sums)
 }
 
-/// The total weight of a task. `sums` has the sums of the own weights of the distinct descendants of each.
+/// The total weight of a task. `sums` has, for each task, the sum of its distinct descendants' own weights.
 fn total_weight_over(
     alloc: Global,
     plan: &Plan,

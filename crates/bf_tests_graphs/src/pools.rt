@@ -1,9 +1,6 @@
 //! The total priority weights of tasks, by which tries wait for room in their pools.
 use crate::plans::plan_of;
-use bf_plan::Plan;
-use bf_pool::total_weight;
-use bf_value::OutOfMemory;
-use std::alloc::Global;
+use bf_pool::total_weights_of;
 use std::test::Fail;
 
 /// A diamond, whose last task counts once, not twice, for the first.
@@ -19,25 +16,16 @@ const UPSTREAM: &str = r#"{"dag_id":"d","schedule":"@daily","tasks":[
   {"id":"e","priority_weight":50000,"weight_rule":"downstream","upstream":["d"]},
   {"id":"f","priority_weight":0,"upstream":["e"]}]}"#;
 
-/// Gives the total weight of each task of a plan, in file order.
-fn weights_in(alloc: Global, plan: &Plan) -> Result<Vec<u32>, OutOfMemory> {
-    let mut weights = Vec::new(alloc);
-    for task in 0..plan.dag().tasks.len() {
-        weights.push(total_weight(alloc, plan, task as u32)?)?;
-    }
-    Ok(weights)
-}
-
 #[test]
 fn a_task_weighs_with_what_is_behind_it(rt: HostRuntime) -> Result<(), Fail> {
-    let weights = weights_in(rt.alloc(), &plan_of(rt.alloc(), DOWNSTREAM)?)?;
+    let weights = total_weights_of(rt.alloc(), &plan_of(rt.alloc(), DOWNSTREAM)?)?;
     assert_eq!(rt; weights.as_slice(), [4, 2, 2, 1].as_slice());
     Ok(())
 }
 
 #[test]
 fn a_task_weighs_by_its_rule(rt: HostRuntime) -> Result<(), Fail> {
-    let weights = weights_in(rt.alloc(), &plan_of(rt.alloc(), UPSTREAM)?)?;
+    let weights = total_weights_of(rt.alloc(), &plan_of(rt.alloc(), UPSTREAM)?)?;
     assert_eq!(rt; weights.as_slice(), [1, 21, 300, 4321, 50000, 0].as_slice());
     Ok(())
 }

@@ -5,7 +5,6 @@ use Rattle.bf_plan.specs.declared.plan.Dag.{Dag}
 use Rattle.bf_core.specs.declared.event.Event.{Event}
 use Rattle.bf_core.specs.Cores.{Backfill, MayCome, WaitsLater}
 use Rattle.bf_core.specs.Events.{place_in}
-use Rattle.bf_pool.specs.Weights.{AreWeights}
 use Rattle.bf_waiting.specs.Choices.{IsPreferred}
 use Rattle.bf_waiting.specs.Standings.{instances_of}
 use Rattle.bf_waiting.specs.Looks.{earlier_moment_of}
