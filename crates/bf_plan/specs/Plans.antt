@@ -1,5 +1,6 @@
 -- The tasks of a plan.
-use Rattle.std.specs.Prelude.{ℕ, Bool, true, false, [], map, slice_index_or, None}
+use Rattle.std.specs.Prelude.{ℕ, Bool, true, false, [], map, slice_index_or, None, is_some}
+use Rattle.std.specs.List.{list_any}
 use Rattle.bf_graph.specs.Shape.{Shape}
 use Rattle.bf_plan.specs.declared.kinds.TaskKind.{TaskKind}
 use Rattle.bf_rule.specs.declared.rule.Rule.{Rule}
@@ -30,6 +31,10 @@ is_branch_kind TaskKind.Program = false
 
 abbrev pub is_branch_in : Task → Bool
 is_branch_in task = is_branch_kind task.kind
+
+-- whether a task is expanded
+abbrev pub expands_in : Dag → Bool
+expands_in dag = list_any (λ task. is_some task.expand) dag.tasks
 
 -- the ids and the upstreams of the tasks
 abbrev pub shape_of : Dag → Shape

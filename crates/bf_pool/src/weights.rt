@@ -107,7 +107,8 @@ fn total_weight_over(
 
 /// The total priority weights of all tasks in file order, as in `total_weight`.
 pub fn total_weights_of(alloc: Global, plan: &Plan) -> Result<Vec<u32>, OutOfMemory>
-    ensures { IfOk result (λ ws. AreWeights plan.now.dag plan.now.limits ws.items) }
+    ensures len { IfOk result (λ ws. length ws.items ≡ length plan.now.dag.tasks) }
+    ensures weights { IfOk result (λ ws. AreWeights plan.now.dag plan.now.limits ws.items) }
 {
     let sums = sums_below(alloc, plan)?;
     let tasks = plan.dag().tasks.len();

@@ -4,7 +4,7 @@ ghost use Rattle.bf_moment.specs.Moment.{IsShown};
 ghost use Rattle.bf_report.specs.Told.{told_by};
 
 use bf_interval::Interval;
-use bf_value::{OutOfMemory, Sequence, Text, Xval};
+use bf_value::{OutOfMemory, Sequence, Text, Xval, copy_option};
 use bf_xcom::{Outcome, RunState, SharedValue, TaskResult};
 use std::alloc::Global;
 use std::marker::Model;
@@ -31,12 +31,14 @@ struct Told {
     pulls: Sequence<Pull>,
 }
 
-/// How an instance is stored: in full only where it pushed something or was given something.
+/// How an instance is stored: in full only where it pushed or pulled something, or was given an item and didn't succeed.
 #[derive(Debug, Drop)]
 enum Kept {
     Success,
     Failed,
     Skipped,
+    /// A success that was given this item.
+    SuccessWith(Box<Xval>),
     Told(Box<Told>),
 }
 
@@ -68,7 +70,8 @@ impl Kept {
 /// An instance with at least one try: how the last one ended, the item that it was given, if its task is expanded, and
 /// what it pulled, in the order of its task's pulls.
 ///
-/// Most instances push nothing and are given nothing, so that they take no more than a word; the others stand in a box.
+/// Most instances push nothing and are given nothing, so that they take no more than a word, or have an item alone; the
+/// others stand in a box.
 #[derive(Debug, Drop)]
 pub struct InstanceReport {
     tries: u32,
@@ -122,6 +125,20 @@ impl InstanceReport {
         Ok(InstanceReport { tries, kept })
     }
 
+    /// Makes an instance that ended so, with its item and without pulls.
+    fn new_with_item(
+        alloc: Global,
+        ended: TaskResult,
+        item: Xval,
+    ) -> Result<InstanceReport, OutOfMemory>
+        ensures { IfOk result (λ instance. instance
+            ≡ record { result = ended; item = Some item; pulls = [] }) }
+    {
+        let mut instance = InstanceReport::new_bare(alloc, ended)?;
+        instance.set_item(alloc, item)?;
+        Ok(instance)
+    }
+
     /// Makes an instance that ended so, with its item, None for a task that isn't expanded, and its pulls.
     pub fn new(
         alloc: Global,
@@ -132,8 +149,11 @@ impl InstanceReport {
         ensures { IfOk result (λ instance. instance
             ≡ record { result = ended; item = item; pulls = pulls }) }
     {
-        if item.is_none() && pulls.is_empty() {
-            return InstanceReport::new_bare(alloc, ended);
+        if pulls.is_empty() {
+            return match item {
+                Some(item) => InstanceReport::new_with_item(alloc, ended, item),
+                None => InstanceReport::new_bare(alloc, ended),
+            };
         }
         let TaskResult { outcome, tries } = ended;
         let kept = Kept::in_full(alloc, outcome, item, pulls)?;
@@ -145,7 +165,7 @@ impl InstanceReport {
         ensures { IfOk result (λ ended. ended ≡ self.now.result) }
     {
         let outcome = match &self.kept {
-            Kept::Success => Outcome::Success(SharedValue::nothing()),
+            Kept::Success | Kept::SuccessWith(_) => Outcome::Success(SharedValue::nothing()),
             Kept::Failed => Outcome::Failed,
             Kept::Skipped => Outcome::Skipped,
             Kept::Told(told) => told.outcome.share()?,
@@ -159,7 +179,7 @@ impl InstanceReport {
         ensures { result.now ≡ state_word self.now.result.outcome }
     {
         match &self.kept {
-            Kept::Success => "success",
+            Kept::Success | Kept::SuccessWith(_) => "success",
             Kept::Failed => "failed",
             Kept::Skipped => "skipped",
             Kept::Told(told) => match told.outcome {
@@ -187,7 +207,7 @@ impl InstanceReport {
                 Outcome::Success(pushed) => pushed.get(),
                 Outcome::Failed | Outcome::Skipped => None,
             },
-            Kept::Success | Kept::Failed | Kept::Skipped => None,
+            Kept::Success | Kept::Failed | Kept::Skipped | Kept::SuccessWith(_) => None,
         }
     }
 
@@ -196,6 +216,7 @@ impl InstanceReport {
         ensures { option_copied result ≡ self.now.item }
     {
         match &self.kept {
+            Kept::SuccessWith(item) => Some(&**item),
             Kept::Told(told) => told.item.as_ref(),
             Kept::Success | Kept::Failed | Kept::Skipped => None,
         }
@@ -207,7 +228,7 @@ impl InstanceReport {
     {
         match &self.kept {
             Kept::Told(told) => told.pulls.as_slice(),
-            Kept::Success | Kept::Failed | Kept::Skipped => &[],
+            Kept::Success | Kept::Failed | Kept::Skipped | Kept::SuccessWith(_) => &[],
         }
     }
 
@@ -216,12 +237,16 @@ impl InstanceReport {
         ensures ok { OnOk result (self.new ≡ record self.old { item = Some item }) }
         ensures err { OnErr result (self.new ≡ self.old) }
     {
-        if let Kept::Told(told) = &mut self.kept {
-            told.item = Some(item);
-            return Ok(());
+        match &mut self.kept {
+            Kept::Told(told) => told.item = Some(item),
+            Kept::Success | Kept::SuccessWith(_) => {
+                self.kept = Kept::SuccessWith(Box::new(alloc, item)?);
+            }
+            Kept::Failed | Kept::Skipped => {
+                let TaskResult { outcome, .. } = self.result()?;
+                self.kept = Kept::in_full(alloc, outcome, Some(item), Sequence::new(alloc))?;
+            }
         }
-        let TaskResult { outcome, .. } = self.result()?;
-        self.kept = Kept::in_full(alloc, outcome, Some(item), Sequence::new(alloc))?;
         Ok(())
     }
 
@@ -237,7 +262,8 @@ impl InstanceReport {
         let mut pulls = Sequence::new(alloc);
         pulls.push(pull)?;
         let TaskResult { outcome, .. } = self.result()?;
-        self.kept = Kept::in_full(alloc, outcome, None, pulls)?;
+        let item = copy_option(alloc, self.item())?;
+        self.kept = Kept::in_full(alloc, outcome, item, pulls)?;
         Ok(())
     }
 }

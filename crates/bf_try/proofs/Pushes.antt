@@ -1,8 +1,9 @@
 -- What the tasks of a plan may push, and the grades of lines.
-use Rattle.std.proofs.Common.{◌≡◌, ℕ, suc, ◌<◌, Bool, true, false, ◌||◌, List, [], ◌∷◌, length, get_or, Option, None, Some, if◌then◌else◌, IsUtf8, refl, sym, ap, ◌∙◌, inl, inr, arith, true≢false}
+use Rattle.std.proofs.Common.{◌≡◌, ℕ, suc, ◌<◌, Bool, true, false, not, ◌&&◌, ◌||◌, List, [], ◌∷◌, length, get_or, Option, None, Some, is_some, if◌then◌else◌, IsUtf8, refl, sym, ap, ◌∙◌, inl, inr, arith, true≢false}
 use Rattle.std.specs.List.{list_any}
 use Rattle.std.specs.Str.{is_utf8}
-use Rattle.std.proofs.lemmas.Bool.{cases_lt, eqb-true}
+use Rattle.std.proofs.Math.Bool.{and-false}
+use Rattle.std.proofs.lemmas.Bool.{cases_lt, eqb-true, or_from, or_parts}
 use Rattle.std.proofs.lemmas.List.{get_or_past}
 use Rattle.std.proofs.lemmas.List.Folds.{list_any_at}
 use Rattle.std.proofs.lemmas.Str.{IsUtf8-from_is_utf8, is_utf8-from_IsUtf8}
@@ -12,12 +13,12 @@ use Rattle.bf_graph.specs.Edges.{IsUpstream}
 use Rattle.bf_graph.specs.Lookups.{IsRisingListOf}
 use Rattle.bf_plan.specs.declared.plan.Task.{Task}
 use Rattle.bf_plan.specs.declared.plan.Dag.{Dag}
-use Rattle.bf_plan.specs.Plans.{no_task, task_of, shape_of}
+use Rattle.bf_plan.specs.Plans.{expands_in, no_task, task_of, shape_of}
 use Rattle.bf_plan.specs.Sound.{IsSound}
 use Rattle.bf_plan.proofs.PlanLemmas.{is_upstream}
 use Rattle.bf_plan.proofs.ListLemmas.{any_contained}
 use Rattle.bf_xcom.specs.declared.values.Outcome.{Outcome}
-use Rattle.bf_try.specs.Grades.{grade_line_of, grade_value, is_source, may_push_in}
+use Rattle.bf_try.specs.Grades.{gives_items_in, grade_line_of, grade_value, is_source, may_push_in}
 
 -- ---- whether one of a list passes
 
@@ -70,6 +71,22 @@ module _ (dag : Dag) (sound : IsSound dag) (source : ℕ) (downstreams : List �
 
   pub downstreams_tell : list_any (λ t. is_source (task_of dag t).expand source) downstreams ≡ list_any (λ task. is_source task.expand source) dag.tasks
   downstreams_tell = same_answer _ _ some_task some_downstream
+
+-- ---- where no task is expanded, none gives items
+
+no_source : (expand : Option ℕ) (t : ℕ) → is_some expand ≡ false → is_source expand t ≡ false
+no_source None t e = refl
+no_source (Some source) t e = absurd (true≢false e)
+
+none_is_source : (t : ℕ) (tasks : List Task) → list_any (λ (task : Task). is_some task.expand) tasks ≡ false → list_any (λ (task : Task). is_source task.expand t) tasks ≡ false
+none_is_source t [] e = refl
+none_is_source t (task ∷ tasks) e =
+    let parts = or_parts (is_some task.expand) (list_any (λ (task : Task). is_some task.expand) tasks) e in
+    or_from _ _ (no_source task.expand t parts.0) (none_is_source t tasks parts.1)
+
+pub none_gives_items : (dag : Dag) (t : ℕ) → expands_in dag ≡ false → gives_items_in dag t ≡ false
+none_gives_items dag t e =
+    ap (λ b. not (is_some (task_of dag t).expand) && b) (none_is_source t dag.tasks e) ∙ and-false (not (is_some (task_of dag t).expand))
 
 -- ---- the grade of a line
 

@@ -87,7 +87,7 @@ fn gives_items(plan: &Plan, task: u32) -> bool
     requires { task < length plan.now.dag.tasks }
     ensures { result ≡ gives_items_in plan.now.dag task }
 {
-    plan.dag().task(task).expand.is_none() && is_source_of_some(plan, task)
+    plan.expands() && (plan.dag().task(task).expand.is_none() && is_source_of_some(plan, task))
 }
 
 /// Whether a task is no branch, or `value` names only direct downstreams of it.

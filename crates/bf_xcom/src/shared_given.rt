@@ -4,22 +4,29 @@ ghost use Rattle.bf_xcom.specs.Givens.{nothing_given};
 
 use crate::shared_value::SharedValue;
 use crate::values::{Given, are_same};
-use bf_value::{OutOfMemory, Xval, is_same_option};
+use bf_value::{OutOfMemory, Sequence, Xval, copy_option, is_same_option};
 use std::alloc::Global;
 use std::marker::Model;
 use std::sync::Arc;
+
+/// What is shared. Most instances are given nothing, or an item alone.
+#[derive(Debug, Drop)]
+enum Shared {
+    Nothing,
+    Item(Arc<Xval, Global>),
+    Whole(Arc<Given, Global>),
+}
 
 /// What the tries of an instance are given. The instance and the ledger's entries of its tries share it, in any threads,
 /// and none changes it; where nothing is given, it takes no memory of its own. Contracts see what is given, and not who
 /// shares it.
 #[derive(Debug, Drop)]
 pub struct SharedGiven {
-    given: Option<Arc<Given, Global>>,
+    shared: Shared,
 }
 
 impl Model for SharedGiven {
-    ghost use Rattle.std.specs.Prelude.{option_map, unwrap_or};
-    ghost use Rattle.bf_xcom.specs.Givens.{nothing_given};
+    ghost use Rattle.bf_xcom.specs.Shared.{given_shared};
     ghost use Rattle.bf_xcom.specs.declared.values.Given.{Given};
     ghost use Rattle.bf_xcom.specs.contracts.values.Given;
     ghost use Rattle.std.specs.Coded.{codes};
@@ -28,7 +35,7 @@ impl Model for SharedGiven {
 
     ghost coded = { Prim.hlevel (codes, Given.the_row.coded) };
 
-    ghost view = { λ s. unwrap_or (option_map (λ arc. arc.value) s.given) nothing_given };
+    ghost view = { λ s. given_shared s.shared };
 }
 
 impl SharedGiven {
@@ -36,40 +43,46 @@ impl SharedGiven {
     pub fn nothing() -> SharedGiven
         ensures { result ≡ nothing_given }
     {
-        SharedGiven { given: None }
+        SharedGiven {
+            shared: Shared::Nothing,
+        }
     }
 
     /// What is given, in a form that many can share.
     pub fn new(alloc: Global, given: Given) -> Result<SharedGiven, OutOfMemory>
         ensures { IfOk result (λ shared. shared ≡ given) }
     {
-        if given.is_nothing() {
-            return Ok(SharedGiven { given: None });
-        }
-        Ok(SharedGiven {
-            given: Some(Arc::new(alloc, given)?),
-        })
+        let Given { item, pulled } = given;
+        let shared = match (item, pulled.is_empty()) {
+            (None, true) => Shared::Nothing,
+            (Some(item), true) => Shared::Item(Arc::new(alloc, item)?),
+            (item, false) => Shared::Whole(Arc::new(alloc, Given { item, pulled })?),
+        };
+        Ok(SharedGiven { shared })
     }
 
     /// The same for one more holder; it is shared and not copied. Contracts see no sharing.
     pub fn share(&self) -> Result<SharedGiven, OutOfMemory>
         ensures { IfOk result (λ shared. shared ≡ self.now) }
     {
-        match &self.given {
-            Some(given) => Ok(SharedGiven {
-                given: Some(Arc::try_clone(given)?),
-            }),
-            None => Ok(SharedGiven { given: None }),
-        }
+        let shared = match &self.shared {
+            Shared::Nothing => Shared::Nothing,
+            Shared::Item(item) => Shared::Item(Arc::try_clone(item)?),
+            Shared::Whole(given) => Shared::Whole(Arc::try_clone(given)?),
+        };
+        Ok(SharedGiven { shared })
     }
 
     /// A copy for a try to take along; pulled values are shared and not copied.
     pub fn copy(&self, alloc: Global) -> Result<Given, OutOfMemory>
         ensures { IfOk result (λ given. given ≡ self.now) }
     {
-        match &self.given {
-            Some(given) => given.copy(alloc),
-            None => Ok(Given::nothing(alloc)),
+        match &self.shared {
+            Shared::Whole(given) => given.copy(alloc),
+            Shared::Nothing | Shared::Item(_) => Ok(Given {
+                item: copy_option(alloc, self.item())?,
+                pulled: Sequence::new(alloc),
+            }),
         }
     }
 
@@ -77,9 +90,10 @@ impl SharedGiven {
     pub fn item(&self) -> Option<&Xval>
         ensures { option_copied result ≡ self.now.item }
     {
-        match &self.given {
-            Some(given) => given.item.as_ref(),
-            None => None,
+        match &self.shared {
+            Shared::Nothing => None,
+            Shared::Item(item) => Some(&**item),
+            Shared::Whole(given) => given.item.as_ref(),
         }
     }
 
@@ -87,9 +101,9 @@ impl SharedGiven {
     pub fn pulled(&self) -> &[SharedValue]
         ensures { result.now ≡ self.now.pulled }
     {
-        match &self.given {
-            Some(given) => given.pulled.as_slice(),
-            None => &[],
+        match &self.shared {
+            Shared::Nothing | Shared::Item(_) => &[],
+            Shared::Whole(given) => given.pulled.as_slice(),
         }
     }
 

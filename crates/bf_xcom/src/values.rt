@@ -58,13 +58,6 @@ impl Given {
         }
     }
 
-    /// Whether nothing is given: no item, and nothing pulled.
-    pub fn is_nothing(&self) -> bool
-        ensures { IsTrue result ↔ (self.now ≡ nothing_given) }
-    {
-        self.item.is_none() && self.pulled.is_empty()
-    }
-
     /// Whether two tries were given the same: equal items and pulls.
     pub fn is_same(&self, other: &Given) -> bool
         ensures { IsTrue result ↔ (self.now ≡ other.now) }
