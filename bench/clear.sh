@@ -1,32 +1,51 @@
 #!/usr/bin/env bash
-# Times how `backfill clear` goes on from the report of 2,000 tasks in 100 runs, of which one instance is cleared, beside `dry`
-# from nothing and beside a line that is refused for its task, once the report has been read.
+# Times how `backfill clear` goes on from a report over a table, and measures its peak memory, for each task instance of the report:
+# of which one instance is cleared, and the first task in each run, and so all that follows from it. Beside them a line that is
+# refused for its task, once the report has been read. Medians of fifteen runs, the least time in brackets, and the least peak. What
+# `clear` reports has to be the report that it read. Needs GNU time.
 set -euo pipefail
 
 source "$(dirname "$(readlink -f "${BASH_SOURCE[0]}")")/program.sh"
-python3 "$root/bench/graph.py" 2000 9985 > "$work/graph.json"
-echo '[]' > "$work/table.json"
-range=(--from 2000-01-01 --to 2000-04-09)
-cleared=(--run 2000-04-09 --table "$work/table.json" "${range[@]}")
 
-# The least of five times, of wall and of processor, in seconds.
-least() {
-    local name=$1 run
-    shift
-    for run in 1 2 3 4 5; do
-        command time -a -o "$work/times" -f '%e %U %S' "$program" "$@" > "$work/out" 2> /dev/null || true
-    done
-    awk -v name="$name" '
-        NR == 1 || $1 < wall { wall = $1 }
-        NR == 1 || $2 + $3 < cpu { cpu = $2 + $3 }
-        END { printf "%-40s %6.2f s of wall %6.2f s of processor\n", name, wall, cpu }' <(grep -v '[a-z]' "$work/times")
-    rm "$work/times"
-}
+PYTHONPATH=$root/bench python3 -B - "$program" "$work" <<'PY'
+import subprocess
+import sys
+import time
 
-least 'dry' dry "$work/graph.json" "$work/table.json" "${range[@]}"
-cp "$work/out" "$work/report"
-least 'check' check "$work/graph.json"
-least 'clear, refused for its task' clear "$work/graph.json" "$work/report" --task q "${cleared[@]}"
-least 'clear of one instance' clear "$work/graph.json" "$work/report" --task t1999 "${cleared[@]}"
-cmp "$work/out" "$work/report"
-least 'clear of one instance, 4 workers' clear "$work/graph.json" "$work/report" --task t1999 "${cleared[@]}" --workers 4
+from shapes import days_of, dry_of, file_of, graph_of, items, mapped, range_of, run_of, said_of, told_by
+
+program, work = sys.argv[1:]
+
+
+def refused(words):
+    """The least time of fifteen in seconds until a line is refused."""
+    times = []
+    for _ in range(15):
+        start = time.monotonic()
+        if subprocess.run(words, capture_output=True).returncode != 2:
+            sys.exit(f"{' '.join(words)} isn't refused")
+        times.append(time.monotonic() - start)
+    return min(times)
+
+
+for name, graph, table, runs, instances, first, last in (
+    ("2,000 tasks x 100 runs", graph_of(2_000), "[]", 100, 200_000, "t0", "t1999"),
+    ("2,000 tasks x 100 runs, ten upstreams each", graph_of(2_000, upstreams=10), "[]", 100, 200_000, "t0", "t1999"),
+    ("200 tasks x 1,000 runs", graph_of(200), "[]", 1_000, 200_000, "t0", "t199"),
+    ("1,024 items x 50 runs", mapped(), items(1_024), 50, 1_025 * 50, "src", "m"),
+):
+    text = told_by(dry_of(program, work, graph, table, runs))
+    report = file_of(work, "report", text.decode())
+    days = days_of(runs)
+    each = file_of(work, "seeds", "".join(f"{day} {first}\n" for day in days))
+    clear = [program, "clear", f"{work}/graph.json", report, "--table", f"{work}/table.json", *range_of(runs)]
+    print(f"{name}, refused for its task: {refused([*clear, '--task', 'q', '--run', f'{days[-1]}']):.3f} s", flush=True)
+    for what, seeds in (
+        ("one instance", ["--task", last, "--run", f"{days[-1]}"]),
+        (f"{first} of each run", ["--seeds", each]),
+    ):
+        words = [*clear, *seeds]
+        if told_by(words) != text:
+            sys.exit(f"{' '.join(words)} reports otherwise")
+        print(f"{name}, {what}: {said_of([run_of(work, words) for _ in range(15)], instances)}", flush=True)
+PY

@@ -1,5 +1,5 @@
 -- What is lent to the workers of a backfill that goes on from a journal may be shared by threads.
-use denote.Param.Send.{IsSend, IsSync, sendable, struct_sync, recorded_sync}
+use denote.Param.Send.{IsSend, IsSync, sendable, struct_sync, recorded_sync, view_sync}
 use denote.RattleType.{RattleType}
 use denote.Ref.{NamedLft}
 use denote.Struct.Declared as declared
@@ -7,7 +7,9 @@ use Rattle.std.proofs.Crossing.{crosses}
 use Rattle.std.proofs.MapsCrossing as maps
 use Rattle.bf_value.proofs.xval.Values.TheLaws.TheKnot as xval
 use Rattle.bf_plan.proofs.plan.Plan.TheSendSync as plan
+use Rattle.bf_xcom.specs.contracts.shared_given.Shared as Shared
 use Rattle.bf_xcom.specs.contracts.shared_given.SharedGiven as SharedGiven
+use Rattle.bf_xcom.specs.contracts.shared_given.SharedGiven.TheInside as Inside
 use Rattle.bf_xcom.specs.contracts.shared_value.SharedValue as SharedValue
 use Rattle.bf_xcom.specs.contracts.values.Given as Given
 use Rattle.bf_try.specs.contracts.ledger.Entry as Entry
@@ -27,8 +29,15 @@ given_send = search (sendable, crosses, xval.crosses, value_send) depth 40 fits 
 given : IsSync Given.the_row
 given = search (sendable, crosses, xval.crosses, value) depth 40 fits 20000
 
+how_shared : IsSync (Shared.the_field).row
+how_shared = search (sendable, crosses, xval.crosses, given_send, given) depth 40 fits 20000
+
+inside : IsSync Inside.the_row
+inside = recorded_sync _ _ _ (Inside.the_type.to_one)
+    (struct_sync (declared.shape Inside.the_type) (how_shared, tt))
+
 shared : IsSync SharedGiven.the_row
-shared = search (sendable, crosses, given_send, given) depth 40 fits 20000
+shared = view_sync _ _ _ _ _ inside
 
 entry : IsSync Entry.the_row
 entry = search (sendable, crosses, value, shared) depth 40 fits 20000
