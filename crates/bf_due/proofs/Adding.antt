@@ -70,7 +70,7 @@ none_decides b k t none (Step.Expand y) of due = none (subst₂ (λ (j u : ℕ).
 settled_turn : (y : Turn) (k r t : ℕ) → y.run ≡ k → y.rank ≡ r → y.task ≡ t → Step.Settle y ≡ Step.Settle (record { run = k; rank = r; task = t })
 settled_turn y k r t a b c = rw (← a, ← b, ← c) refl
 
-unexpanded : (dag : Dag) (s : State) (k t : ℕ) → is_some (task_of dag t).expand ≡ false → goes_on_in dag s k t ≡ false
+pub unexpanded : (dag : Dag) (s : State) (k t : ℕ) → is_some (task_of dag t).expand ≡ false → goes_on_in dag s k t ≡ false
 unfolding goes_on_in
 unexpanded dag s k t none = rw none refl
 

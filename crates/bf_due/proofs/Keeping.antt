@@ -60,8 +60,8 @@ speaks b now e is was able same = speaks_as now.dag b.dag now.state b.state (ap 
 
 -- what is kept is up to date after the event, where it was so before it
 pub keeps : (b now : Backfill) (e : Event) → IsReplay now → MayCome b e → now ≡ moved b e → (old : Kept) → IsUpToDate b old → (rows after : List Cursors) (mid new : List Step) →
-    AsksAll now (Concerns now.dag now.state e) old.progress rows old.steps mid → ((n : Backfill) → AreNoted n rows → AreNoted n after) → IsPruned now mid new → (room : ℕ) → IsUpToDate now (record { steps = new; room = room; progress = after })
-keeps b now e was able same old is rows after mid new asks forgets cleaned room = record {
+    AsksAll now (Concerns now.dag now.state e) old.progress rows old.steps mid → ((n : Backfill) → AreNoted n rows → AreNoted n after) → (AreNoted now after → IsPruned now mid new) → (room : ℕ) → IsUpToDate now (record { steps = new; room = room; progress = after })
+keeps b now e was able same old is rows after mid new asks forgets prunes room = record {
   replayed = was;
   ranking = subst (λ (d : Dag). Ranking (shape_of d).upstreams) (sym dags) is.ranking;
   holds = λ x due. cleaned.kept x (elim (newly_due b is.replayed e able x (subst (λ (n : Backfill). MayCome n (event_of x)) same due.1)) [
@@ -70,11 +70,17 @@ keeps b now e was able same old is rows after mid new asks forgets cleaned room 
   ]) due.1;
   ranked = λ x c. added.ranked (λ y h. subst (λ (d : Dag). IsRanked d y) (sym dags) (is.ranked y h)) x (cleaned.fewer x c);
   live = cleaned.live;
-  reached = forgets now (asks reached).0;
+  reached = noted;
 }
   where
     reached : AreNoted now old.progress
     reached = reached_stays b now e able same old.progress is.reached
+
+    noted : AreNoted now after
+    noted = forgets now (asks reached).0
+
+    cleaned : IsPruned now mid new
+    cleaned = prunes noted
 
     added : HasAdded now (Concerns now.dag now.state e) old.steps mid
     added = (asks reached).1
@@ -107,8 +113,8 @@ opened_step b is (Step.Expand x) may = inl (open_before b.dag b.runs b.state (re
 
 -- the steps of the opened runs, and then the opening of the next
 pub starts : (b : Backfill) → IsReplay b → Ranking (shape_of b.dag).upstreams → (first second new : List Step) →
-    HasAdded b (IsOfRunBelow (next_run b.state)) [] first → HasAdded b IsOpening first second → IsPruned b second new → (room : ℕ) (rows : List Cursors) → rows ≡ [] → IsUpToDate b (record { steps = new; room = room; progress = rows })
-starts b is ranking first second new runs opening cleaned room rows no_rows = record {
+    HasAdded b (IsOfRunBelow (next_run b.state)) [] first → HasAdded b IsOpening first second → (rows : List Cursors) → rows ≡ [] → (AreNoted b rows → IsPruned b second new) → (room : ℕ) → IsUpToDate b (record { steps = new; room = room; progress = rows })
+starts b is ranking first second new runs opening rows no_rows prunes room = record {
   replayed = is;
   ranking = ranking;
   holds = λ x due. cleaned.kept x (elim (opened_step b is x due.1) [
@@ -119,6 +125,9 @@ starts b is ranking first second new runs opening cleaned room rows no_rows = re
   live = cleaned.live;
   reached = none_reached b rows no_rows;
 }
+  where
+    cleaned : IsPruned b second new
+    cleaned = prunes (none_reached b rows no_rows)
 
 -- ---- the first step
 

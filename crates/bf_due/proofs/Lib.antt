@@ -5,3 +5,4 @@ pub mod AgendaFacts
 pub mod Newly
 pub mod Adding
 pub mod Keeping
+pub mod Settling

@@ -1,32 +1,19 @@
 //! Asking the core which steps may come, and putting those on an agenda.
-ghost use Rattle.std.specs.Prelude.{◌≡◌, ◌<◌, ◌≤◌, ◌+◌, ◌↔◌, ℕ, length, slice_index, IsTrue, false};
+ghost use Rattle.std.specs.Prelude.{◌≡◌, ◌<◌, ◌≤◌, ◌+◌, ℕ, length, slice_index, false};
 ghost use Rattle.bf_graph.specs.Edges.{IsUpstream};
 ghost use Rattle.bf_graph.specs.Lookups.{IsRisingListOf};
 ghost use Rattle.bf_plan.specs.Plans.{shape_of};
-ghost use Rattle.bf_core.specs.Cores.{IsThere, MayCome};
-ghost use Rattle.bf_due.specs.Agendas.{event_of};
+ghost use Rattle.bf_core.specs.Cores.{IsThere};
 ghost use Rattle.bf_due.specs.Dues.{HasAdded, HasRoom};
-ghost use Rattle.bf_due.specs.inner.Dues.{Asks, AsksAll, Concerns, IsAround, IsBelow, IsPruned, IsCloseOf, IsOfFirst, IsOfRun, IsOfTask, IsOpening, IsStirred, IsUnder, SpeaksOfTask, newest};
+ghost use Rattle.bf_due.specs.inner.Dues.{Asks, AsksAll, Concerns, IsAround, IsBelow, IsCloseOf, IsOfFirst, IsOfRun, IsOfTask, IsOpening, IsStirred, IsUnder, SpeaksOfTask, newest};
 ghost use Rattle.bf_due.specs.Cursors.{IsNoted};
 ghost use Rattle.bf_due.specs.inner.Stirring.{is_past_known_in, is_settled, may_let_be_decided_in, waits_for_in};
 
 use crate::agenda::{Agenda, Step};
 use crate::cursors::Cursors;
-use crate::decisions::{decision_step, may_decide};
+use crate::decisions::decision_step;
 use crate::news::{News, rule_looks_for};
 use bf_core::{Core, Event};
-
-/// Whether a step's event may come to the core now.
-fn may_come(core: &Core<'_>, step: Step) -> bool
-    ensures { IsTrue result ↔ MayCome core.now (event_of step) }
-{
-    match step {
-        Step::Close { run } => core.may_close(run),
-        Step::Open => core.may_open(),
-        Step::Settle(turn) => may_decide(core, turn.run, turn.task, false),
-        Step::Expand(turn) => may_decide(core, turn.run, turn.task, true),
-    }
-}
 
 /// Adds the step that decides a task, none of whose upstreams is awaited, where it has one.
 fn add_decision(agenda: &mut Agenda, core: &Core<'_>, run: u32, task: u32)
@@ -342,17 +329,5 @@ pub(crate) fn add_steps_after(
         Event::Open => add_steps_of_opened(agenda, rows, core, newest_run(core)),
         Event::Close { .. } => add_open(agenda, core),
         Event::Begin(_) | Event::Tick { .. } => {}
-    }
-}
-
-/// Drops the first step until one is first that may come now, or none is left.
-pub(crate) fn drop_outdated_steps(agenda: &mut Agenda, core: &Core<'_>)
-    ensures { IsPruned core.now agenda.old.items agenda.new.items }
-{
-    while let Some(step) = agenda.first() {
-        if may_come(core, step) {
-            return;
-        }
-        let _ = agenda.take_first();
     }
 }

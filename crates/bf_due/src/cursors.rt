@@ -146,7 +146,8 @@ impl Cursors {
         }
     }
 
-    /// Whether all these instances of a task have finished. Moves the task's cursor past the first ones that have.
+    /// Whether all these instances of a task have finished. Moves the task's cursor past the first ones that have, where
+    /// there are several.
     fn have_finished(&mut self, instances: &[Instance], task: u32) -> bool
         requires { length instances.now ≤ 1_024 }
         ensures finished { (b : Backfill) (k : ℕ) → IsNoted b k self.old → cell_at b.state k task
@@ -156,6 +157,9 @@ impl Cursors {
             ≡ Cell.Ran instances.now → IsNoted b k self.new }
         ensures settled { self.new.settled ≡ self.old.settled }
     {
+        if let [only] = instances {
+            return is_finished(&only.phase);
+        }
         let from = number_at(self.finished.as_slice(), task);
         let finished = first_unfinished(instances, from as usize);
         self.note_finished(task, finished as u32);
@@ -173,6 +177,16 @@ impl Cursors {
             Some(instances) => self.have_finished(instances, task),
             None => core.is_settled(run, task),
         }
+    }
+
+    /// Whether it is noted that each upstream of a task lets it be decided in a run; false where that isn't noted.
+    pub(crate) fn have_passed_all(&self, core: &Core<'_>, task: u32) -> bool
+        requires { task < length core.now.dag.tasks }
+        ensures { (k : ℕ) → IsNoted core.now k self.now → IsTrue result → ArePassed
+            (has_early_rule_in core.now.dag task) core.now.dag core.now.state k task
+            (length (task_of core.now.dag task).upstreams) }
+    {
+        upstreams_of(core, task).len() <= number_at(self.passed.as_slice(), task) as usize
     }
 
     /// Whether a task needn't wait for an upstream in a run: it is settled, or it is no branch and the task's rule is

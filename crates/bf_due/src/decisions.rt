@@ -1,12 +1,11 @@
 //! Which step decides a task in a run now.
-ghost use Rattle.std.specs.Prelude.{◌≡◌, ◌<◌, ◌↔◌, ℕ, Bool, is_some, length, IsTrue, IfSome, IfNone, Some, false};
-ghost use Rattle.bf_core.specs.Terms.{task_of};
-ghost use Rattle.bf_core.specs.Events.{IsDecidable};
-ghost use Rattle.bf_core.specs.Cores.{MayCome, deciding};
+ghost use Rattle.std.specs.Prelude.{◌≡◌, ◌<◌, ◌↔◌, ℕ, Bool, length, IsTrue, IfSome, IfNone, Some};
+ghost use Rattle.bf_core.specs.Events.{IsDecidable, cell_at};
+ghost use Rattle.bf_core.specs.Cores.{IsThere, MayCome, deciding};
 ghost use Rattle.bf_core.specs.declared.state.Cell.{Cell};
 ghost use Rattle.bf_due.specs.declared.agenda.Step.{Step};
 ghost use Rattle.bf_due.specs.Dues.{IsDueStep, IsRanked};
-ghost use Rattle.bf_due.specs.inner.Dues.{IsOfTask};
+ghost use Rattle.bf_due.specs.inner.Dues.{IsOfTask, WaitsForUpstreamsAlone};
 
 use crate::agenda::{Step, Turn};
 use bf_core::{Cell, Core, Event};
@@ -40,9 +39,9 @@ pub fn may_decide(core: &Core<'_>, run: u32, task: u32, expands: bool) -> bool
 
 /// Whether nothing but its upstreams keeps a task from being decided, and that without an expansion: its rule waits for
 /// all of them, it isn't expanded, and it doesn't depend on its past.
-fn waits_for_upstreams_alone(core: &Core<'_>, task: u32) -> bool
+pub(crate) fn waits_for_upstreams_alone(core: &Core<'_>, task: u32) -> bool
     requires { task < length core.now.dag.tasks }
-    ensures { IsTrue result → is_some (task_of core.now.dag task).expand ≡ false }
+    ensures { IsTrue result → WaitsForUpstreamsAlone core.now.dag task }
 {
     let task = core.plan().dag().task(task);
     task.rule.waits_until_settled() && task.expand.is_none() && !task.depends_on_past
@@ -55,9 +54,10 @@ fn is_undecided(cell: &Cell) -> bool
     matches!(cell, Cell::Undecided)
 }
 
-/// False only where a task is decided in a run, or isn't there.
-fn awaits_decision(core: &Core<'_>, run: u32, task: u32) -> bool
-    ensures { IsDecidable core.now.dag core.now.state run task → IsTrue result }
+/// Whether nothing is decided of a task in a run; false where the run or the task isn't there.
+pub(crate) fn awaits_decision(core: &Core<'_>, run: u32, task: u32) -> bool
+    ensures { IsTrue result ↔ (IsThere core.now.dag core.now.state run task
+        × (cell_at core.now.state run task ≡ Cell.Undecided)) }
 {
     match core.cell(run, task) {
         Some(cell) => is_undecided(cell),

@@ -10,8 +10,9 @@ ghost use Rattle.bf_due.specs.Dues.{HasAdded, HasRoomForSteps, IsUpToDate};
 ghost use Rattle.bf_due.specs.inner.Dues.{IsOfRunBelow, SpeaksOfTask};
 
 use crate::agenda::Agenda;
-use crate::asking::{add_open, add_steps_after, add_steps_of_run, drop_outdated_steps};
+use crate::asking::{add_open, add_steps_after, add_steps_of_run};
 use crate::cursors::Cursors;
+use crate::pruning::drop_outdated_steps;
 use bf_core::{Core, Event};
 use bf_value::OutOfMemory;
 use std::alloc::Global;
@@ -175,11 +176,12 @@ impl Due {
         let mut agenda = steps_of_runs(alloc, core)?;
         agenda.make_room(1)?;
         add_open(&mut agenda, core);
-        drop_outdated_steps(&mut agenda, core);
+        let progress = Vec::new(alloc);
+        drop_outdated_steps(&mut agenda, progress.as_slice(), core);
         Ok(Due {
             alloc,
             agenda,
-            progress: Vec::new(alloc),
+            progress,
         })
     }
 
@@ -204,7 +206,7 @@ impl Due {
         if names_no_stranger(core, event) {
             add_steps_after(&mut self.agenda, &mut self.progress, core, event);
             forget_closed(self.alloc, &mut self.progress, event);
-            drop_outdated_steps(&mut self.agenda, core);
+            drop_outdated_steps(&mut self.agenda, self.progress.as_slice(), core);
         }
     }
 

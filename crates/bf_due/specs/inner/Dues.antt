@@ -1,16 +1,17 @@
 -- Which steps an event may make possible, and how an agenda gains and loses steps.
-use Rattle.std.specs.Prelude.{◌≡◌, ◌⊎◌, ℕ, ◌+◌, ◌-◌, ◌<◌, true, List, Contains, IfSome, slice_get, slice_index}
+use Rattle.std.specs.Prelude.{◌≡◌, ◌⊎◌, ℕ, ◌+◌, ◌-◌, ◌<◌, true, false, is_some, List, Contains, IfSome, slice_get, slice_index}
 use Rattle.bf_graph.specs.Edges.{IsUpstream}
 use Rattle.bf_plan.specs.declared.plan.Dag.{Dag}
 use Rattle.bf_plan.specs.Plans.{shape_of}
 use Rattle.bf_core.specs.declared.event.Event.{Event}
 use Rattle.bf_core.specs.declared.state.State.{State}
 use Rattle.bf_core.specs.Cores.{Backfill, IsThere, MayCome}
+use Rattle.bf_core.specs.Terms.{task_of}
 use Rattle.bf_core.specs.Events.{next_run}
 use Rattle.bf_due.specs.declared.agenda.Step.{Step}
 use Rattle.bf_due.specs.declared.news.News.{News}
 use Rattle.bf_due.specs.declared.cursors.Cursors.{Cursors}
-use Rattle.bf_due.specs.Cursors.{AreNoted, IsNoted}
+use Rattle.bf_due.specs.Cursors.{AreNoted, IsNoted, has_early_rule_in}
 use Rattle.bf_due.specs.Agendas.{event_of}
 use Rattle.bf_due.specs.inner.Stirring.{decided_at, ended_at, is_settled, may_let_be_decided_in}
 use Rattle.bf_due.specs.Dues.{HasAdded}
@@ -118,6 +119,12 @@ SpeaksOfTask dag state (Event.Begin name) = Unit {0}
 SpeaksOfTask dag state (Event.End name outcome) = IsThere dag state name.run name.task
 SpeaksOfTask dag state (Event.Close run) = Unit {0}
 SpeaksOfTask dag state (Event.Tick moment) = Unit {0}
+
+-- the task waits until its upstreams are settled, and for nothing else; and it isn't expanded
+pub record WaitsForUpstreamsAlone (dag : Dag) (task : ℕ) : Type 0 where
+  pub patient : has_early_rule_in dag task ≡ false
+  pub single : is_some (task_of dag task).expand ≡ false
+  pub alone : (task_of dag task).depends_on_past ≡ false
 
 -- ---- while it is kept
 
