@@ -1,7 +1,7 @@
 #!/usr/bin/env bash
-# Counts the instructions of `dry` and `clear`, with starting the program, and tells by which power of a number they grow: of tasks, of runs, of
-# edges, of the upstreams of one task, and of items, each from its half. What `clear` clears is one instance. Counts don't depend on
-# what else the machine does. Needs valgrind.
+# Counts the instructions of `dry` and `clear`, with starting the program, and tells by which power of a number they grow: of tasks, of edges
+# and of the upstreams of one task, each in 100 runs, of the runs of 200 tasks, and of items in 50 runs, each from its half. `clear`
+# clears one instance. Counts don't depend on what else the machine does. Needs valgrind, and takes some minutes.
 set -euo pipefail
 
 source "$(dirname "$(readlink -f "${BASH_SOURCE[0]}")")/program.sh"
@@ -41,10 +41,10 @@ def counts(graph, table, runs, last):
 
 
 for name, of, half in (
-    ("tasks", lambda tasks: (graph_of(tasks), "[]", 20, f"t{tasks - 1}"), 1_000),
+    ("tasks", lambda tasks: (graph_of(tasks), "[]", 100, f"t{tasks - 1}"), 1_000),
     ("runs", lambda runs: (graph_of(200), "[]", runs, "t199"), 200),
-    ("edges of 2,000 tasks", lambda edges: (graph_of(2_000, upstreams=edges // 2_000), "[]", 20, "t1999"), 10_000),
-    ("upstreams of one task", lambda upstreams: (fan(upstreams), "[]", 20, "m"), 999),
+    ("edges of 2,000 tasks", lambda edges: (graph_of(2_000, upstreams=edges // 2_000), "[]", 100, "t1999"), 10_000),
+    ("upstreams of one task", lambda upstreams: (fan(upstreams), "[]", 100, "m"), 999),
     ("items", lambda count: (mapped(), items(count), 50, "m"), 512),
 ):
     for what, less, more in zip(("dry", "clear"), counts(*of(half)), counts(*of(2 * half))):
