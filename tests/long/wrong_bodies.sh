@@ -17,8 +17,9 @@ workers=${WORKERS:-$(side_by_side)}
 
 mkdir -p "${log%/*}"
 touch "$results" "$kept"
+anew=
 if [[ ${1:-} == --anew ]]; then
-    : > "$kept"
+    anew=yes
     shift
 fi
 crates=("$@")
@@ -98,7 +99,7 @@ try_crate() {
     sources=$(sum_of_sources)
     for edit in "$root/crates/$crate/wrong-bodies"/*.edit; do
         sums[$edit]=$({ echo "$sources"; cat "$edit"; } | sha256sum | cut -d ' ' -f 1)
-        if grep -qF "${sums[$edit]} " "$kept"; then
+        if [[ -z $anew ]] && grep -qF "${sums[$edit]} " "$kept"; then
             echo "$crate/${edit##*/}: refused before" >> "$results"
             unset "sums[$edit]"
         fi
