@@ -1,26 +1,27 @@
 #!/usr/bin/env bash
 # Times how `backfill clear` goes on from a report over a table, and measures its peak memory, for each task instance of the report:
 # of which one instance is cleared, and the first task in each run, and so all that follows from it. Beside them a line that is
-# refused for its task, once the report has been read. Medians of fifteen runs, the least time in brackets, and the least peak. What
-# `clear` reports has to be the report that it read. Needs GNU time.
+# refused for its task, once the report has been read. bench/clear.sh [RUNS [PART]]: the median of so many runs, else of fifteen, the least
+# time in brackets, and the least peak, of those reports whose names have this part. What `clear` reports has to be the report that it
+# read. Needs GNU time.
 set -euo pipefail
 
 source "$(dirname "$(readlink -f "${BASH_SOURCE[0]}")")/program.sh"
 
-PYTHONPATH=$root/bench python3 -B - "$program" "$work" <<'PY'
+PYTHONPATH=$root/bench python3 -B - "$program" "$work" "${1:-15}" "${2:-}" <<'PY'
 import subprocess
 import sys
 import time
 
 from shapes import days_of, dry_of, file_of, graph_of, items, mapped, range_of, run_of, said_of, told_by
 
-program, work = sys.argv[1:]
+program, work, count, part = sys.argv[1:]
 
 
 def refused(words):
-    """The least time of fifteen in seconds until a line is refused."""
+    """The least time in seconds until a line is refused."""
     times = []
-    for _ in range(15):
+    for _ in range(int(count)):
         start = time.monotonic()
         if subprocess.run(words, capture_output=True).returncode != 2:
             sys.exit(f"{' '.join(words)} isn't refused")
@@ -34,6 +35,8 @@ for name, graph, table, runs, instances, first, last in (
     ("200 tasks x 1,000 runs", graph_of(200), "[]", 1_000, 200_000, "t0", "t199"),
     ("1,024 items x 50 runs", mapped(), items(1_024), 50, 1_025 * 50, "src", "m"),
 ):
+    if part not in name:
+        continue
     text = told_by(dry_of(program, work, graph, table, runs))
     report = file_of(work, "report", text.decode())
     days = days_of(runs)
@@ -47,5 +50,5 @@ for name, graph, table, runs, instances, first, last in (
         words = [*clear, *seeds]
         if told_by(words) != text:
             sys.exit(f"{' '.join(words)} reports otherwise")
-        print(f"{name}, {what}: {said_of([run_of(work, words) for _ in range(15)], instances)}", flush=True)
+        print(f"{name}, {what}: {said_of([run_of(work, words) for _ in range(int(count))], instances)}", flush=True)
 PY

@@ -1,28 +1,29 @@
 #!/usr/bin/env bash
 # Times `backfill dry`, with starting the program, and measures its peak memory, for each task instance: over many tasks, over
 # many runs of which few, one or all may be open at once, by eight workers, and over an expanded task. The half of each shows how both
-# grow. Medians of fifteen runs, the least time in brackets, and the least peak. Where there is a rustc, by turns with the least that
-# such a backfill costs (bench/floor.rs), whose reports have to be the same. Needs GNU time.
+# grow. bench/dry.sh [RUNS [PART]]: the median of so many runs, else of fifteen, the least time in brackets, and the least peak, of those
+# backfills whose names have this part. Where there is a rustc, by turns with the least that such a backfill costs (bench/floor.rs), whose
+# reports have to be the same. Needs GNU time.
 set -euo pipefail
 
 source "$(dirname "$(readlink -f "${BASH_SOURCE[0]}")")/program.sh"
 [[ -z $(command -v rustc) ]] || rustc -O -o "$work/floor" "$root/bench/floor.rs"
 
-PYTHONPATH=$root/bench python3 -B - "$program" "$work" <<'PY'
+PYTHONPATH=$root/bench python3 -B - "$program" "$work" "${1:-15}" "${2:-}" <<'PY'
 import os
 import statistics
 import sys
 
 from shapes import dry_of, entries, graph_of, items, mapped, run_of, said_of, told_by
 
-program, work = sys.argv[1:]
+program, work, count, part = sys.argv[1:]
 
 
 def measured(dry, floor, instances):
-    """What fifteen runs come to, each followed by one of the floor, where there is one, which has to report the same."""
+    """What the runs come to, each followed by one of the floor, where there is one, which has to report the same."""
     if floor and told_by(floor) != told_by(dry):
         sys.exit(f"{' '.join(floor)} reports otherwise")
-    runs = [(run_of(work, dry), run_of(work, floor) if floor else None) for _ in range(15)]
+    runs = [(run_of(work, dry), run_of(work, floor) if floor else None) for _ in range(int(count))]
     text = said_of([own for own, _ in runs], instances)
     if not floor:
         return text
@@ -44,6 +45,8 @@ for name, graph, table, runs, instances, floor, further in (
     ("1,024 items x 50 runs", mapped(), items(1_024), 50, 1_025 * 50, "items 1024 50", []),
     ("1,024 items x 50 runs, each pulls all", mapped(command=["true", {"pull": "src"}]), items(1_024), 50, 1_025 * 50, "", []),
 ):
+    if part not in name:
+        continue
     least = f"{work}/floor"
     words = [least, *floor.split()] if floor and os.path.exists(least) else []
     print(f"{name}: {measured([*dry_of(program, work, graph, table, runs), *further], words, instances)}", flush=True)
