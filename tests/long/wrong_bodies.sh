@@ -1,11 +1,12 @@
 #!/usr/bin/env bash
 # Tries the wrong bodies in crates/NAME/wrong-bodies/, each of which the prover has to refuse: tests/long/wrong_bodies.sh [--anew] [CRATE ..], by
 # itself those of all crates. Each is laid into a copy of its crate that `rt check` then looks at, over what it keeps of the crate itself and
-# of those below it, so that only what the edit touches is proved again: begin with `rt all check` in crates/. As many crates are tried side by
-# side as WORKERS says, else as there are processors, where memory has 5 GB for each. What was refused is kept in out/wrong_bodies.kept, by the
-# sum of all that its check read, and not tried again; --anew tries all. What is said stands in out/wrong_bodies.log. The last line is
-# `N refused, M not`. Those that weren't refused, couldn't be applied or read, weren't tried, or took away a name that a proof cites (which
-# says nothing of the contract) are named above it, and then the status is 1.
+# of those below it, so that only what the edit touches is proved again: begin with `rt all check` in crates/. One check looks at the functions that
+# up to ten edits change; what these don't refuse is tried by itself, at last over the whole crate. As many crates are tried side by side as
+# WORKERS says, else as there are processors, where memory has 5 GB for each. What was refused is kept in out/wrong_bodies.kept, by the sum of all
+# that its check read, and not tried again; --anew tries all. What is said stands in out/wrong_bodies.log. The last line is `N refused, M not`.
+# Those that weren't refused, couldn't be applied or read, weren't tried, or took away a name that a proof cites (which says nothing of the
+# contract) are named above it, and then the status is 1.
 set -euo pipefail
 
 source "$(dirname "$(readlink -f "${BASH_SOURCE[0]}")")/../../bench/crates.sh"
@@ -66,31 +67,84 @@ lay_out_kept() {
     done
 }
 
-# Checks the crate in this folder, and says what came of it.
+# Checks the crate in this folder, or these functions of it and what they call, and says what came of it.
 check() {
     local status=0
-    rt check --jobs 1 > "$work/said" 2>&1 || status=$?
+    rt check --jobs 1 "${@/#/--only=}" > "$work/said" 2>&1 || status=$?
     cat "$work/said"
     return "$status"
 }
 
-# Applies an edit to the crate in this folder, whose code stands in `work` too, and says what came of it.
-try_edit() {
+# What a check of these functions, or else of the crate in this folder, comes to with an edit.
+verdict_on() {
     local status=0
+    check "$@" > /dev/null || status=$?
+    wrong_body verdict "$work/said" "$status"
+}
+
+# Applies an edit to the crate in this folder, whose code stands in `work` too, and says what came of it. The functions that it changes are looked
+# at by themselves, which is far less to read, and the whole crate only where they don't refuse it.
+try_edit() {
+    local functions verdict=
+    mapfile -t functions < <(wrong_body functions "$1" 2> /dev/null)
     if wrong_body apply "$1" > "$work/said" 2>&1; then
-        check > /dev/null || status=$?
-        wrong_body verdict "$work/said" "$status"
+        [[ ${#functions[@]} -eq 0 ]] || verdict=$(verdict_on "${functions[@]}")
+        if [[ $verdict != refused ]]; then
+            touch "$work/whole"
+            verdict=$(verdict_on)
+        fi
+        echo "$verdict"
     else
         cat "$work/said"
     fi
+    restore
+}
+
+# Whether the functions that the edits change are proved as they stand in this folder, and the crate too where an edit was judged by it.
+stands() {
+    local status=0
+    if [[ ${#functions[@]} -eq 0 || -e $work/whole ]]; then
+        check || status=$?
+    else
+        check "${functions[@]}" || status=$?
+        # (2: there isn't one function of such a name)
+        [[ $status -ne 2 ]] || { check && status=0; }
+    fi
+    return "$status"
+}
+
+# Applies some of these edits, each to another function, to the crate in this folder, whose code stands in `work` too, and notes those that one
+# check refuses. Leaves what it applied in `work`/together.
+try_together() {
+    local functions edit
+    wrong_body together "$@" > "$work/together"
+    mapfile -t functions < <(cut -d ' ' -f 2 "$work/together")
+    if [[ ${#functions[@]} -gt 1 ]]; then
+        check "${functions[@]}" || true
+        while read -r edit; do
+            note "$edit" refused
+        done < <(wrong_body refused "$work/said" "$crate" < "$work/together")
+    fi
+    restore
+}
+
+restore() {
     rm -R src
     cp -R "$work/src" src
 }
 
-# Tries those wrong bodies of a crate in a copy that weren't refused before over the same sources, and notes what each came to, where the
-# crate itself is proved before and after.
+# Notes what an edit of this crate came to.
+note() {
+    local name=$crate/${1##*/}
+    echo "$name: $2" | tee -a "$work/results"
+    [[ $2 != refused ]] || echo "${sums[$1]} $name" >> "$work/kept"
+    unset "sums[$1]"
+}
+
+# Tries those wrong bodies of a crate in a copy that weren't refused before over the same sources, as many as can be together and the others by
+# themselves, and notes what each came to, where what they change is proved without them in the same folder.
 try_crate() {
-    local crate=$1 sources edit name verdict
+    local crate=$1 sources edit functions left
     local work=$work/$crate
     local -A sums=()
     mkdir -p "$work/.git"
@@ -107,17 +161,20 @@ try_crate() {
     [[ ${#sums[@]} -gt 0 ]] || return 0
     lay_out_kept "$crate" || return
     cd "$work/crates/$crate"
-    check || return
+    mapfile -t functions < <(for edit in "${!sums[@]}"; do wrong_body functions "$edit"; done | sort -u)
     cp -R src "$work/src"
-    for edit in "${!sums[@]}"; do
-        name=$crate/${edit##*/}
-        echo "== $name"
-        verdict=$(try_edit "$edit")
-        cat "$work/said"
-        echo "$name: $verdict" | tee -a "$work/results"
-        [[ $verdict != refused ]] || echo "${sums[$edit]} $name" >> "$work/kept"
+    left=("${!sums[@]}")
+    while [[ ${#left[@]} -gt 0 ]]; do
+        try_together "${left[@]}"
+        [[ -s $work/together ]] || break
+        mapfile -t left < <(printf '%s\n' "${left[@]}" | grep -vxFf <(cut -d ' ' -f 1 "$work/together"))
     done
-    check || return
+    for edit in "${!sums[@]}"; do
+        echo "== $crate/${edit##*/}"
+        note "$edit" "$(try_edit "$edit")"
+        cat "$work/said"
+    done
+    stands || return
     cat "$work/results" >> "$results"
     [[ ! -e $work/kept ]] || cat "$work/kept" >> "$kept"
     rm -R "$work"
