@@ -144,7 +144,7 @@ note() {
 # Tries those wrong bodies of a crate in a copy that weren't refused before over the same sources, as many as can be together and the others by
 # themselves, and notes what each came to, where what they change is proved without them in the same folder.
 try_crate() {
-    local crate=$1 sources edit functions left
+    local crate=$1 sources edit functions left=$((1 << 30))
     local work=$work/$crate
     local -A sums=()
     mkdir -p "$work/.git"
@@ -163,11 +163,10 @@ try_crate() {
     cd "$work/crates/$crate"
     mapfile -t functions < <(for edit in "${!sums[@]}"; do wrong_body functions "$edit"; done | sort -u)
     cp -R src "$work/src"
-    left=("${!sums[@]}")
-    while [[ ${#left[@]} -gt 0 ]]; do
-        try_together "${left[@]}"
-        [[ -s $work/together ]] || break
-        mapfile -t left < <(printf '%s\n' "${left[@]}" | grep -vxFf <(cut -d ' ' -f 1 "$work/together"))
+    # (what depends on a function that one check refuses is left for the next)
+    while [[ ${#sums[@]} -lt $left ]]; do
+        left=${#sums[@]}
+        try_together "${!sums[@]}"
     done
     for edit in "${!sums[@]}"; do
         echo "== $crate/${edit##*/}"
