@@ -14,6 +14,7 @@ use bf_interval::Runs;
 use bf_report::{RunReport, report_of, write_report};
 use bf_xcom::RunState;
 use std::alloc::Global;
+use std::mem::forget;
 
 /// Whether a run succeeded.
 fn has_succeeded(run: &RunReport) -> bool
@@ -54,5 +55,8 @@ pub(crate) fn write_ended<W: Write>(
     let _of_runs = runs.intervals();
     let report = report_of(alloc, runs, ended)?;
     write_report(alloc, &report, out)?;
-    Ok(all_succeeded(report.runs.as_slice()))
+    let success = all_succeeded(report.runs.as_slice());
+    // The command ends here, and the process gives all back at once.
+    forget(report);
+    Ok(success)
 }

@@ -93,14 +93,15 @@ impl Followers {
 
     /// Whether an instance of a task follows in a run, given that one does: it is a seed itself, or the whole task is a
     /// seed or follows from others.
+    // (most follow from others, which is seen sooner than a seed is found)
     fn follows_if_touched(&self, dag: &Dag, run: u32, task: u32, index: i32) -> bool
         requires { task < length dag.now.tasks }
         ensures { result ≡ is_led_to_in dag.now self.now run task index }
     {
         let rows = self.touched.as_slice();
-        self.has_seed(run, task, None)
+        follows(dag, task, &[], marks_before(rows, run), marks_at(rows, run))
+            || self.has_seed(run, task, None)
             || self.has_seed(run, task, Some(index))
-            || follows(dag, task, &[], marks_before(rows, run), marks_at(rows, run))
     }
 
     /// Whether the instance of map index `index` of task number `task` follows in run number `run`; false where there

@@ -1,8 +1,8 @@
 -- Reports of pulls, of tasks and of runs, one after another.
-use Rattle.std.proofs.Common.{◌≡◌, ◌<◌, ◌+◌, ℕ, suc, List, [], ◌∷◌, ◌++◌, Option, length, take, drop, refl, sym, ap, ap₂, ◌∙◌, arith, append_assoc, add-one, drop-cons, get_or, length-take}
-use Rattle.std.specs.List.{All, AllByRecursion}
-use Rattle.std.proofs.lemmas.List.{take_more}
-use Rattle.std.proofs.lemmas.List.Elements.{All-from_recursion, All-weaker}
+use Rattle.std.proofs.Common.{◌≡◌, ◌<◌, ◌+◌, ℕ, suc, List, [], ◌∷◌, ◌++◌, Option, Some, length, take, drop, refl, sym, ap, ap₂, ◌∙◌, arith, append_assoc, add-one, drop-cons, get_or, length-take}
+use Rattle.std.specs.List.{All, AllByRecursion, filter_map}
+use Rattle.std.proofs.lemmas.List.{take_more, take-append-drop}
+use Rattle.std.proofs.lemmas.List.Elements.{All-from_recursion, All-weaker, filter_map-append}
 use Rattle.std.proofs.Props.{props}
 use mathlib.Core.HLevel.{is_prop→PathP}
 use Rattle.bf_value.specs.declared.xval.Xval.{Xval}
@@ -18,6 +18,7 @@ use Rattle.bf_core.specs.Recursion.{out, run_state_of}
 use Rattle.bf_core.specs.Events.{cell_at, entry_in}
 use Rattle.bf_core.specs.Agreement.{IsOutcome}
 use Rattle.bf_core.proofs.Confluence.{ancestor_in}
+use Rattle.bf_mapped.proofs.FilterLemmas.{one_more}
 use Rattle.bf_moment.specs.Moment.{IsShown}
 use Rattle.bf_report.specs.declared.report.TaskReport.{TaskReport}
 use Rattle.bf_report.specs.declared.report.RunReport.{RunReport}
@@ -28,6 +29,12 @@ use Rattle.bf_report.specs.Dated.{pulls_in, reported, reports_from, cell_by, Are
 pub all_more : {X : Type 0} (P : X → Type 0) (xs : List X) (x : X) → AllByRecursion P xs → P x → AllByRecursion P (xs ++ x ∷ [])
 all_more P [] x all one = (one, tt)
 all_more P (y ∷ ys) x all one = (all.0, all_more P ys x all.1 one)
+
+-- the first item of which something is given gives what comes first of all
+pub first_given : {X Y : Type 0} (h : X → Option Y) (xs : List X) (i : ℕ) (x : X) (y : Y) → i < length xs → x ≡ get_or xs i x → h x ≡ Some y → [] ≡ filter_map h (take i xs) → y ∷ filter_map h (drop (i + 1) xs) ≡ filter_map h xs
+first_given h xs i x y within is gives none =
+    ap (λ ys. ys ++ filter_map h (drop (i + 1) xs)) (one_more h xs i x y [] within is gives none)
+    ∙ sym (filter_map-append h (take (i + 1) xs) (drop (i + 1) xs)) ∙ ap (filter_map h) (take-append-drop (i + 1) xs)
 
 -- ---- pulls
 

@@ -1,34 +1,59 @@
 //! The report of a backfill that has ended.
-ghost use Rattle.std.specs.Prelude.{◌≡◌, ◌≤◌, ◌<◌, length, map, All, IfOk};
+ghost use Rattle.std.specs.Prelude.{◌≡◌, ◌≤◌, ◌<◌, true, false, length, map, All, IfOk};
+ghost use Rattle.std.specs.List.{filter_map};
 ghost use Rattle.bf_plan.specs.Sound.{IsSound};
 ghost use Rattle.bf_core.specs.Events.{entry_in, cell_at};
 ghost use Rattle.bf_core.specs.Agreement.{IsOutcome, AreRunStates};
 ghost use Rattle.bf_interval.specs.Intervals.{IsShownInterval};
-ghost use Rattle.bf_report.specs.Dated.{reported, reported_instances, reports_from, AreDated, IsDated, ids_shown};
-ghost use Rattle.bf_report.specs.Values.{AreSoundInstances, IsSoundTask, AreSoundTasks, AreSoundRuns, HasSoundValues};
+ghost use Rattle.bf_report.specs.Dated.{reported, reported_instance, reported_instances, reports_from, AreDated, IsDated, ids_shown};
+ghost use Rattle.bf_report.specs.Values.{IsSoundTask, AreSoundTasks, AreSoundRuns, HasSoundValues};
 
-use crate::instances::instance_reports;
-use crate::report::{InstanceReport, Report, RunReport, TaskReport, Version};
-use bf_core::{Cell, Ended, State};
+use crate::instances::{instance_report, instance_reports};
+use crate::report::{Report, RunReport, TaskReport, Version};
+use bf_core::{Cell, Ended, Instance, State};
 use bf_interval::{Interval, Runs};
 use bf_plan::{Dag, Task};
 use bf_value::{OutOfMemory, Sequence, Text};
 use bf_xcom::RunState;
 use std::alloc::Global;
 
-/// Makes the report of a task from its finished instances: all of them for an expanded task, else the first, and
-/// `NoStatus` where there is none.
-fn report_of_instances(is_expanded: bool, mut instances: Vec<InstanceReport>) -> TaskReport
-    ensures report { result ≡ reported_instances is_expanded instances.items }
-    ensures sound { AreSoundInstances instances.items → IsSoundTask result }
+/// Makes the report of a task that isn't expanded from its instances: that of the first one that has finished, and
+/// `NoStatus` where none has.
+fn report_of_first(
+    alloc: Global,
+    dag: &Dag,
+    task: u32,
+    instances: &[Instance],
+) -> Result<TaskReport, OutOfMemory>
+    requires dag { IsSound dag.now }
+    requires task { task < length dag.now.tasks }
+    ensures report { IfOk result (λ r. r ≡ reported_instances false
+        (filter_map (reported_instance dag.now task) instances.now)) }
+    ensures sound { IfOk result IsSoundTask }
 {
-    if is_expanded {
-        return TaskReport::Mapped(Sequence::from_vec(instances));
+    for instance in instances {
+        if let Some(report) = instance_report(alloc, dag, task, instance)? {
+            return Ok(TaskReport::Ran(report));
+        }
     }
-    if instances.is_empty() {
-        return TaskReport::NoStatus;
-    }
-    TaskReport::Ran(instances.swap_remove(0))
+    Ok(TaskReport::NoStatus)
+}
+
+/// Makes the report of an expanded task from its instances: those of all that have finished.
+fn report_of_each(
+    alloc: Global,
+    dag: &Dag,
+    task: u32,
+    instances: &[Instance],
+) -> Result<TaskReport, OutOfMemory>
+    requires dag { IsSound dag.now }
+    requires task { task < length dag.now.tasks }
+    ensures report { IfOk result (λ r. r ≡ reported_instances true
+        (filter_map (reported_instance dag.now task) instances.now)) }
+    ensures sound { IfOk result IsSoundTask }
+{
+    let reports = instance_reports(alloc, dag, task, instances)?;
+    Ok(TaskReport::Mapped(Sequence::from_vec(reports)))
 }
 
 /// Makes the report of a task from its cell in one run, without instances that haven't finished. `NoStatus` where the
@@ -48,10 +73,10 @@ fn report_of_cell(
         Cell::Undecided | Cell::Blocked => Ok(TaskReport::NoStatus),
         Cell::Skipped => Ok(TaskReport::Skipped),
         Cell::UpstreamFailed => Ok(TaskReport::UpstreamFailed),
-        Cell::Ran(instances) => {
-            let instances = instance_reports(alloc, dag, task, instances.as_slice())?;
-            Ok(report_of_instances(dag.task(task).expand.is_some(), instances))
+        Cell::Ran(instances) if dag.task(task).expand.is_some() => {
+            report_of_each(alloc, dag, task, instances.as_slice())
         }
+        Cell::Ran(instances) => report_of_first(alloc, dag, task, instances.as_slice()),
     }
 }
 

@@ -88,7 +88,7 @@ fn pulls_of(
 }
 
 /// Makes the report of one instance of a task; None where the instance hasn't finished.
-fn instance_report(
+pub(crate) fn instance_report(
     alloc: Global,
     dag: &Dag,
     task: u32,

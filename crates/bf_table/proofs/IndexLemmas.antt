@@ -1,8 +1,11 @@
 -- Finding the first entry by what entries name.
 use Rattle.std.proofs.Common.{◌≡◌, ℕ, suc, ◌<◌, ◌+◌, Bool, true, false, cond, if◌then◌else◌, List, ◌∷◌, length, get_or, drop, Option, Some, None, option_map, refl, sym, ap, ◌∙◌, arith, [], ◌++◌}
+use Rattle.std.specs.BTreeMap as tree
+use Rattle.std.specs.Map.{lookup}
 use Rattle.std.specs.Ordering.{is_eq, eq_by_cmp}
 use Rattle.std.specs.Cmp.{IsTotalOrder, nat_cmp_total, int_cmp_total, then_total, on_total, eq_by_cmp_equiv}
 use Rattle.std.specs.Cmp.Lexicographic.{options_total, lists_total}
+use Rattle.std.proofs.lemmas.List.{nil_from_length}
 use Rattle.bf_value.proofs.ReadLemmas.{drop_item}
 use Rattle.bf_plan.proofs.ListLemmas.{position_cons}
 use Rattle.bf_table.specs.declared.table.TableEntry.{TableEntry}
@@ -42,6 +45,13 @@ key_again get one other same = earlier_same (get one) ∙ ap (λ k. earlier_plac
 pub group_again : (get : Pattern → Option ℕ) (ones others : List Pattern) → ones ≡ others → first_of_keys get ones ≡ first_of_keys get (ones ++ others)
 group_again get ones others same =
     earlier_same (first_of_keys get ones) ∙ ap (λ ks. earlier_place_of (first_of_keys get ones) (first_of_keys get ks)) same ∙ two_groups get ones others
+
+-- where there is no key, none is found
+pub nothing_found : (firsts : tree.BTreeMap Pattern ℕ) (keys : List Pattern) → tree.btree_map_len firsts ≡ 0 → None ≡ first_of_keys (tree.get pattern_cmp firsts) keys
+nothing_found firsts [] empty = refl
+nothing_found firsts (key ∷ keys) empty =
+    nothing_found firsts keys empty
+    ∙ sym (ap (λ es. earlier_place_of (lookup (tree.is_at (pattern_cmp key)) es) (first_of_keys (tree.get pattern_cmp firsts) keys)) (nil_from_length firsts.entries empty))
 
 -- ---- each pattern's first entry
 

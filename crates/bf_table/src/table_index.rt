@@ -250,10 +250,14 @@ impl TableIndex {
 
     /// The place, from 0, of the first entry that answers for a try in a run of this logical date; None where no entry
     /// does.
+    #[tactic(auto, using(crate::proofs::IndexLemmas::nothing_found))]
     pub(crate) fn first_for_try(&self, date: [u8; 20], name: JobName) -> Option<usize>
         ensures { result ≡ first_of_keys (tree.get pattern_cmp self.now.firsts)
             (keys_of (pattern_of_try self.now.named date name)) }
     {
+        if self.firsts.is_empty() {
+            return None;
+        }
         first_for_pattern(&self.firsts, Pattern::of_try(self.named, date, name))
     }
 }

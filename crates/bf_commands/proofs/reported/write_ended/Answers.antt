@@ -39,6 +39,6 @@ returns-in_err-write_report-clause-left g c =
 
 pub returns-clause-ok : goal.returns-clause-ok
 returns-clause-ok g c =
-    let succeeded = c.all_succeeded.ensures ∙ ap (list_all (λ run. is_success_in run.state)) c.as_slice.ensures in
+    let succeeded = c.all_succeeded-success.ensures ∙ ap (list_all (λ run. is_success_in run.state)) c.as_slice.ensures in
     let is = kept (subst IsSound c.plan.ensures.dag c.dag-named.ensures.sound) (subst IsNamed c.plan.ensures.dag c.dag-named.ensures.named) c.intervals-of_runs.ensures.of_runs c.requires c.state-ended.ensures.end c.in_ok-report.ensures.dated c.in_ok-report.ensures.sound _ succeeded in
     (report_text c.in_ok-report.report, is, c.in_ok-write_report.ensures.ok)
