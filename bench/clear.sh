@@ -1,9 +1,9 @@
 #!/usr/bin/env bash
 # Times how `backfill clear` goes on from a report over a table, and measures its peak memory, for each task instance of the report:
 # of which one instance is cleared, and the first task in each run, and so all that follows from it. Beside them a line that is
-# refused for its task, once the report has been read. bench/clear.sh [RUNS [PART]]: the median of so many runs, else of fifteen, the least
-# time in brackets, and the least peak, of those reports whose names have this part. What `clear` reports has to be the report that it
-# read. Needs GNU time.
+# refused for its task, once the report has been read. bench/clear.sh [RUNS [PART]]: the median of up to so many runs while the machine is
+# quiet, else of fifteen, the least time in brackets, and the least peak, of those reports whose names have this part. What `clear` reports
+# has to be the report that it read. Needs GNU time.
 set -euo pipefail
 
 source "$(dirname "$(readlink -f "${BASH_SOURCE[0]}")")/program.sh"
@@ -13,7 +13,7 @@ import subprocess
 import sys
 import time
 
-from shapes import days_of, dry_of, file_of, graph_of, items, mapped, range_of, run_of, said_of, told_by
+from shapes import days_of, dry_of, file_of, graph_of, items, mapped, quiet_runs, range_of, run_of, said_of, told_by
 
 program, work, count, part = sys.argv[1:]
 
@@ -50,5 +50,6 @@ for name, graph, table, runs, instances, first, last in (
         words = [*clear, *seeds]
         if told_by(words) != text:
             sys.exit(f"{' '.join(words)} reports otherwise")
-        print(f"{name}, {what}: {said_of([run_of(work, words) for _ in range(int(count))], instances)}", flush=True)
+        runs = quiet_runs(int(count), lambda: run_of(work, words))
+        print(f"{name}, {what}: {said_of(runs, instances)}", flush=True)
 PY

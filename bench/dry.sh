@@ -1,9 +1,9 @@
 #!/usr/bin/env bash
 # Times `backfill dry`, with starting the program, and measures its peak memory, for each task instance: over many tasks, over
 # many runs of which few, one or all may be open at once, by eight workers, and over an expanded task. The half of each shows how both
-# grow. bench/dry.sh [RUNS [PART]]: the median of so many runs, else of fifteen, the least time in brackets, and the least peak, of those
-# backfills whose names have this part. Where there is a rustc, by turns with the least that such a backfill costs (bench/floor.rs), whose
-# reports have to be the same. Needs GNU time.
+# grow. bench/dry.sh [RUNS [PART]]: the median of up to so many runs while the machine is quiet, else of fifteen, the least time in
+# brackets, and the least peak, of those backfills whose names have this part. Where there is a rustc, by turns with the least that such a
+# backfill costs (bench/floor.rs), whose reports have to be the same. Needs GNU time.
 set -euo pipefail
 
 source "$(dirname "$(readlink -f "${BASH_SOURCE[0]}")")/program.sh"
@@ -14,7 +14,7 @@ import os
 import statistics
 import sys
 
-from shapes import dry_of, entries, graph_of, items, mapped, run_of, said_of, told_by
+from shapes import dry_of, entries, graph_of, items, mapped, quiet_runs, run_of, said_of, told_by
 
 program, work, count, part = sys.argv[1:]
 
@@ -23,7 +23,7 @@ def measured(dry, floor, instances):
     """What the runs come to, each followed by one of the floor, where there is one, which has to report the same."""
     if floor and told_by(floor) != told_by(dry):
         sys.exit(f"{' '.join(floor)} reports otherwise")
-    runs = [(run_of(work, dry), run_of(work, floor) if floor else None) for _ in range(int(count))]
+    runs = quiet_runs(int(count), lambda: (run_of(work, dry), run_of(work, floor) if floor else None))
     text = said_of([own for own, _ in runs], instances)
     if not floor:
         return text

@@ -74,12 +74,35 @@ def run_of(work, words):
         return seconds, int(file.read()) * 1024
 
 
+def pace():
+    """The time in seconds that a loop takes which does nothing but count."""
+    start = time.perf_counter()
+    for _ in range(200_000):
+        pass
+    return time.perf_counter() - start
+
+
+def quiet_runs(count, run):
+    """What calls of `run` gave while the machine was quiet: right before and right after each, a loop took at most a tenth longer than it
+    ever did. Gives so many, or fewer where twenty times as many calls give no more."""
+    runs = []
+    least = min(pace() for _ in range(100))
+    for _ in range(20 * count):
+        before, found, after = pace(), run(), pace()
+        least = min(least, before, after)
+        if max(before, after) <= 1.1 * least:
+            runs.append(found)
+        if len(runs) == count:
+            break
+    return runs or sys.exit(f"the machine was quiet in none of {20 * count} runs")
+
+
 def said_of(runs, instances):
-    """The median time of these runs, their least time in brackets, and the least peak, for each task instance."""
+    """How many runs these are, their median time, the least in brackets, and the least peak, for each task instance."""
     seconds = [seconds for seconds, _ in runs]
     middle = statistics.median(seconds)
     peak = min(peak for _, peak in runs)
     return (
-        f"{middle:.2f} s, {middle / instances * 1e6:.2f} us ({min(seconds) / instances * 1e6:.2f}) "
+        f"{len(runs)} runs, {middle:.2f} s, {middle / instances * 1e6:.2f} us ({min(seconds) / instances * 1e6:.2f}) "
         f"and {peak / instances:.0f} bytes a task instance"
     )
