@@ -70,7 +70,7 @@ lay_out_kept() {
 # Checks the crate in this folder, or these functions of it and what they call, and says what came of it.
 check() {
     local status=0
-    rt check --jobs 1 "${@/#/--only=}" > "$work/said" 2>&1 || status=$?
+    rt check --jobs 1 --short-goals "${@/#/--only=}" > "$work/said" 2>&1 || status=$?
     cat "$work/said"
     return "$status"
 }
