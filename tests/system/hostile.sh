@@ -321,6 +321,31 @@ status=0
 "$program" run "$graph" "${day[@]}" --workers 8 <&- >&- 2>&- || status=$?
 is_same 'status with all three closed' 3 "$status"
 
+# No file takes the place of a stream that is closed: a journal has its records alone, and the same line goes on from it.
+
+tasks '{"id":"a","command":["sh","-c","echo words >&2; exit 1"]},{"id":"b","command":["echo","7"]}'
+one_day failed <<< $'a -1 failed 1 -\nb -1 success 1 7' > "$work/wanted"
+# Gives the line again, and takes its journal away.
+goes_on() {
+    status=0
+    timeout 60 "$program" "${line[@]}" > "$work/out" 2> "$work/err" || status=$?
+    is_same "the report of a journal behind $1" "1 $(< "$work/wanted")" "$status $(< "$work/out")"
+    rm "$work/journal.$workers"
+}
+for workers in 1 8; do
+    line=(run "$graph" "${day[@]}" --workers "$workers" --progress --journal "$work/journal.$workers" --logs "$work/logs.$workers")
+    with_output closed "${line[@]}"
+    is_same 'standard output that is closed, with a journal' '3 fault: cannot write' "$status $(tail -n 1 "$work/err")"
+    goes_on 'closed standard output'
+    with_errors closed "${line[@]}"
+    is_same 'standard error that is closed, with a journal' "1 $(< "$work/wanted")" "$status $(< "$work/out")"
+    goes_on 'closed standard error'
+    status=0
+    timeout 60 "$program" "${line[@]}" <&- >&- 2>&- || status=$?
+    is_same 'status with all three closed, with a journal' 3 "$status"
+    goes_on 'three closed streams'
+done
+
 # Signals. Each run is of a process group of its own, as a shell makes one at a terminal. Its program writes down that it is there
 # and waits at the gate.
 

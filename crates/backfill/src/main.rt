@@ -6,7 +6,10 @@ use bf_device::Output;
 use bf_disk::Disk;
 use bf_program::{answer, explain_check};
 use bf_views::Canvas;
+use std::fs::File;
 use std::io::IsTerminal;
+use std::mem::forget;
+use std::os::fd::AsRawFd;
 use std::process::ExitCode;
 use std::{env, io};
 
@@ -19,6 +22,7 @@ For more information, try '--help'.";
 /// Answers the command line with the machine's files, clocks, threads and programs, and ends with the exit status that
 /// this gives. After a refusal, tells what is wrong with the graph where `check --explain` asks for it.
 fn main(rt: HostRuntime) -> ExitCode {
+    fill_closed_streams(&rt);
     let words = match words(&rt) {
         Ok(words) => words,
         Err(error) => return ExitCode::from(tell_unreadable_words(&rt, &error).code()),
@@ -44,6 +48,20 @@ fn main(rt: HostRuntime) -> ExitCode {
         let _ = explain_check(rt.alloc(), &words, &mut files, &mut err);
     }
     ExitCode::from(status)
+}
+
+/// Opens `/dev/null` in the place of each standard stream that is closed, so that no file which is opened later, as a
+/// journal, gets what is written there. It is opened for reading: writing there fails, as where it is closed.
+fn fill_closed_streams(rt: &HostRuntime) {
+    for _ in 0..3 {
+        let Ok(file) = File::open(rt, "/dev/null") else {
+            return;
+        };
+        if file.as_raw_fd() > 2 {
+            return;
+        }
+        forget(file);
+    }
 }
 
 /// Reads the words of the command line, the program's own name first. An error where one isn't UTF-8, or at want of
