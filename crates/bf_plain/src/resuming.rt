@@ -5,6 +5,7 @@ ghost use Rattle.bf_core.specs.Answered.{AreGraded, MayFault};
 ghost use Rattle.bf_core.specs.Endings.{IsEndOf, KeepsWorkers};
 ghost use Rattle.bf_core.specs.Events.{entry_in};
 ghost use Rattle.bf_core.specs.Terms.{AreAlike};
+ghost use Rattle.bf_plain.specs.Ticks.{TicksToFirstMoments};
 
 use crate::driving::one_by_one;
 use bf_core::{BackfillFault, Ended};
@@ -37,6 +38,9 @@ pub fn resume_one_by_one<'p, N: RunCount, K: KeptTries, R: TaskRunner>(
         KeepsWorkers plan.entry.now.dag (N.runs runs.now) 1 ended.journal) }
     ensures err { IfErr result (MayFault
         (MayGiveUpAnew (K.kept keeping.now.kept.now) (R.may_give_up keeping.now.runner.now))) }
+    ensures ticks { IfOk result (λ ended.
+        TicksToFirstMoments plan.entry.now.dag plan.entry.now.limits (N.runs runs.now)
+        ended.journal) }
 {
     one_by_one(alloc, plan, runs, keeping)
 }

@@ -19,7 +19,7 @@ use Rattle.bf_views.specs.Asked.{asked_fault}
 use Rattle.bf_views.specs.ExplainFaults.{IsExplainFault, IsExplainFaultAt, IsRefusal}
 use Rattle.bf_views.specs.inner.ExplainFaults.{IsFaultOfAsked}
 use Rattle.bf_views.specs.Explanations.{IsExplainAnswer, IsExplanation, paths_asked}
-use Rattle.bf_views.specs.Planned.{IsPlanningFault}
+use Rattle.bf_views.specs.Planned.{HasGraph, IsPlanningFault}
 use Rattle.bf_views.specs.inner.Planned.{IsPlanned}
 use Rattle.bf_planning.specs.Wanting.{IsWanting}
 
@@ -48,14 +48,14 @@ module _ (files : Files) (asked : ExplainAsked) (start : Timestamp) (means : Mea
   pub planning_explains : (fault : CommandFault) → IsPlanningFault files asked.graph fault → IsExplainFault files asked fault
   planning_explains fault is = meant fault (planning_at fault is)
 
-  report_at : AreReadable files (graph_paths asked.graph) → (fault : CommandFault) → IsReportFault (string_bytes asked.report) (files (string_bytes asked.report)) fault → IsExplainFaultAt files asked start.nanosecond fault
-  report_at readable OutOfMemory is = tt
-  report_at readable (CannotRead path) is = inr (readable, is.0, is.1)
-  report_at readable (BadReport fault) is = (readable, is)
-  report_at readable _ is = absurd is
+  report_at : HasGraph files asked.graph → (fault : CommandFault) → IsReportFault (string_bytes asked.report) (files (string_bytes asked.report)) fault → IsExplainFaultAt files asked start.nanosecond fault
+  report_at has OutOfMemory is = tt
+  report_at has (CannotRead path) is = inr (has, is.0, is.1)
+  report_at has (BadReport fault) is = (has, is)
+  report_at has _ is = absurd is
 
-  pub report_explains : AreReadable files (graph_paths asked.graph) → (fault : CommandFault) → IsReportFault (string_bytes asked.report) (files (string_bytes asked.report)) fault → IsExplainFault files asked fault
-  report_explains readable fault is = meant fault (report_at readable fault is)
+  pub report_explains : HasGraph files asked.graph → (fault : CommandFault) → IsReportFault (string_bytes asked.report) (files (string_bytes asked.report)) fault → IsExplainFault files asked fault
+  report_explains has fault is = meant fault (report_at has fault is)
 
   -- with what was read
   module _ (planned : Planned) (report : Report) (are : IsPlanned files asked.graph planned) (readable : AreReadable files (graph_paths asked.graph)) (is_read : IsReadOf (files (string_bytes asked.report)) report) where

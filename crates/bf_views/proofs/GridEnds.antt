@@ -1,5 +1,5 @@
 -- What `show` comes to as a grid.
-use Rattle.std.proofs.Common.{◌≡◌, ℕ, List, Option, true, false, refl, sym, ap, subst, ◌∙◌, string_bytes}
+use Rattle.std.proofs.Common.{◌≡◌, ℕ, List, Option, true, false, refl, sym, ap, subst, ◌∙◌, inl, inr, string_bytes}
 use Rattle.bf_plan.specs.declared.plan.Dag.{Dag}
 use Rattle.bf_interval.specs.declared.fault.IntervalFault.{IntervalFault}
 use Rattle.bf_report.specs.declared.report.Report.{Report}
@@ -23,6 +23,7 @@ use Rattle.bf_views.specs.Bounds.{HasNoBound, MeansBounds, is_reversed_in}
 use Rattle.bf_views.specs.GridFaults.{IsGridFault, IsGridFaultIn}
 use Rattle.bf_views.specs.Grids.{IsGridAnswer, view_asked}
 use Rattle.bf_views.specs.Matching.{is_of_graph}
+use Rattle.bf_views.specs.Planned.{HasGraph, IsPlanningFault}
 use Rattle.bf_views.specs.inner.Planned.{IsPlanned}
 use Rattle.bf_views.specs.Reported.{IsReportedFault}
 use Rattle.bf_planning.specs.Wanting.{IsWanting}
@@ -39,8 +40,8 @@ unmeant_leaves Halted IsDue before asked fault is = subst (λ (f : CommandFault)
 abbrev pub reversed : CommandFault
 reversed = BadRange (Unlisted IntervalFault.RangeReversed)
 
-pub reversed_fault : (files : Files) (asked : ShowAsked) (bounds : Bounds) → MeansBounds asked bounds → AreReadable files (graph_paths asked.graph) → (fault : CommandFault) → (fault ≡ reversed) × (is_reversed_in bounds ≡ true) → IsGridFault files asked fault
-reversed_fault files asked bounds means readable fault is = subst (λ (f : CommandFault). IsGridFault files asked f) (sym is.0) (bounds, means, (readable, is.1))
+pub reversed_fault : (files : Files) (asked : ShowAsked) (bounds : Bounds) → MeansBounds asked bounds → HasGraph files asked.graph → (fault : CommandFault) → (fault ≡ reversed) × (is_reversed_in bounds ≡ true) → IsGridFault files asked fault
+reversed_fault files asked bounds means has fault is = subst (λ (f : CommandFault). IsGridFault files asked f) (sym is.0) (bounds, means, (has, is.1))
 
 pub reversed_leaves : (Halted : Type 0) (IsDue : List ℕ → Type 0) (before : Option (List ℕ)) (bounds : Bounds) (fault : CommandFault) → (fault ≡ reversed) × (is_reversed_in bounds ≡ true) → Leaves Halted IsDue before before fault
 reversed_leaves Halted IsDue before bounds fault is = subst (λ (f : CommandFault). Leaves Halted IsDue before before f) (sym is.0) refl
@@ -58,14 +59,23 @@ is_unwritten fault = by_cause fault.cause fault.sent
 -- ---- files
 
 module _ (files : Files) (asked : ShowAsked) (bounds : Bounds) (means : MeansBounds asked bounds) where
-  in_bounds : (fault : CommandFault) → IsReportedFault files asked.graph (string_bytes asked.report) fault → IsGridFaultIn files asked bounds fault
-  in_bounds (BadRange (Unlisted IntervalFault.RangeReversed)) is = absurd is
-  in_bounds fault is = is
+  planned_in : (fault : CommandFault) → IsPlanningFault files asked.graph fault → IsGridFaultIn files asked bounds fault
+  planned_in (BadRange (Unlisted IntervalFault.RangeReversed)) is = absurd is
+  planned_in fault is = inl is
 
-  -- the moments mean some, and the files hold a fault
-  pub reported_fault : (fault : CommandFault) → IsReportedFault files asked.graph (string_bytes asked.report) fault → IsGridFault files asked fault
-  reported_fault BadMoment is = absurd is
-  reported_fault fault is = (bounds, means, in_bounds fault is)
+  -- the moments mean some, and the graph's files hold a fault
+  pub planned_fault : (fault : CommandFault) → IsPlanningFault files asked.graph fault → IsGridFault files asked fault
+  planned_fault BadMoment is = absurd is
+  planned_fault fault is = (bounds, means, planned_in fault is)
+
+  in_order : is_reversed_in bounds ≡ false → (fault : CommandFault) → IsReportedFault files asked.graph (string_bytes asked.report) fault → IsGridFaultIn files asked bounds fault
+  in_order ordered (BadRange (Unlisted IntervalFault.RangeReversed)) is = absurd is
+  in_order ordered fault is = inr (ordered, is)
+
+  -- the moments mean some in order, and the files hold a fault
+  pub reported_fault : is_reversed_in bounds ≡ false → (fault : CommandFault) → IsReportedFault files asked.graph (string_bytes asked.report) fault → IsGridFault files asked fault
+  reported_fault ordered BadMoment is = absurd is
+  reported_fault ordered fault is = (bounds, means, in_order ordered fault is)
 
   -- the grid of what was read
   pub grid_answer : (canvas : Canvas) → is_reversed_in bounds ≡ false → (planned : Planned) (report : Report) → IsPlanned files asked.graph planned → AreReadable files (graph_paths asked.graph) → IsReadOf (files (string_bytes asked.report)) report →

@@ -21,7 +21,7 @@ use Rattle.bf_views.specs.declared.planned.Planned.{Planned}
 use Rattle.bf_views.specs.Matching.{intervals_in, is_of_graph}
 use Rattle.bf_views.specs.PageFaults.{IsPageFault}
 use Rattle.bf_views.specs.Pages.{IsPage, IsPageAnswer, journal_path, words_asked}
-use Rattle.bf_views.specs.Planned.{IsPlanningFault}
+use Rattle.bf_views.specs.Planned.{HasGraph, IsPlanningFault}
 use Rattle.bf_views.specs.inner.Planned.{IsPlanned}
 use Rattle.bf_views.specs.inner.Refused.{IsRefusedBy}
 use Rattle.bf_views.specs.Times.{AreTimesTold, IsJournalFault}
@@ -73,11 +73,11 @@ module _ (files : Files) (asked : PageAsked) where
   planning_page (Check fault) is = is
   planning_page _ is = absurd is
 
-  pub report_page : AreReadable files (graph_paths asked.graph) → (fault : CommandFault) → IsReportFault (string_bytes asked.report) (files (string_bytes asked.report)) fault → IsPageFault files asked fault
-  report_page readable OutOfMemory is = tt
-  report_page readable (CannotRead path) is = inl (inr (readable, is.0, is.1))
-  report_page readable (BadReport fault) is = (readable, is)
-  report_page readable _ is = absurd is
+  pub report_page : HasGraph files asked.graph → (fault : CommandFault) → IsReportFault (string_bytes asked.report) (files (string_bytes asked.report)) fault → IsPageFault files asked fault
+  report_page has OutOfMemory is = tt
+  report_page has (CannotRead path) is = inl (inr (has, is.0, is.1))
+  report_page has (BadReport fault) is = (has, is)
+  report_page has _ is = absurd is
 
   module _ (planned : Planned) (report : Report) (are : IsPlanned files asked.graph planned) (readable : AreReadable files (graph_paths asked.graph)) (is_read : IsReadOf (files (string_bytes asked.report)) report) where
     pub refusal_page : (fault : CommandFault) → IsRefusedBy (is_of_graph planned.plan.dag report) fault → IsPageFault files asked fault
@@ -93,7 +93,13 @@ module _ (files : Files) (asked : PageAsked) where
     module _ (matches : is_of_graph planned.plan.dag report ≡ true) where
       pub journal_page : (fault : CommandFault) → IsNamedJournalFault files (journal_path asked) planned.plan.dag (intervals_in report.runs) fault → IsPageFault files asked fault
       journal_page OutOfMemory is = tt
-      journal_page (CannotRead path) is = inr ((readable, is_read.readable), is)
+      journal_page (CannotRead path) is = inr (
+        (readable, is_read.readable),
+        λ graph zone held_graph held told.
+            let plan = (are graph zone held_graph).1 in
+            record { draft = plan.draft; graph_says = plan.graph_is; report = report; report_says = is_read.says held told; matches = ap (λ (d : Dag). is_of_graph d report) (sym plan.dag) ∙ matches },
+        is,
+      )
       journal_page (Journal fault) is = (
         (readable, is_read.readable),
         is.0,

@@ -12,7 +12,7 @@ use Rattle.bf_input.specs.Inputs.{IsReportFault, graph_paths}
 use Rattle.bf_input.specs.inner.Inputs.{IsReadOf}
 use Rattle.bf_views.specs.declared.planned.Planned.{Planned}
 use Rattle.bf_views.specs.Matching.{is_of_graph}
-use Rattle.bf_views.specs.Planned.{IsPlanningFault}
+use Rattle.bf_views.specs.Planned.{HasGraph, IsPlanningFault}
 use Rattle.bf_views.specs.inner.Planned.{IsPlanned}
 use Rattle.bf_views.specs.inner.Refused.{IsRefusedBy}
 use Rattle.bf_views.specs.Reported.{IsReportedFault}
@@ -24,6 +24,10 @@ pub unwritten_leaves : (Halted : Type 0) (IsDue : List ℕ → Type 0) (before :
 unwritten_leaves Halted IsDue before Is never (CannotWrite n) is = absurd (never n is)
 unwritten_leaves Halted IsDue before Is never _ is = refl
 
+-- what was planned is a graph without a fault
+pub has_graph : (files : Files) (asked : GraphAsked) (planned : Planned) → IsPlanned files asked planned → AreReadable files (graph_paths asked) → HasGraph files asked
+has_graph files asked planned are readable = (readable, λ graph zone held. let plan = (are graph zone held).1 in (plan.draft, plan.graph_is))
+
 module _ (files : Files) (asked : GraphAsked) (path : List ℕ) where
   pub planning_fault : (fault : CommandFault) → IsPlanningFault files asked fault → IsReportedFault files asked path fault
   planning_fault OutOfMemory is = tt
@@ -32,11 +36,11 @@ module _ (files : Files) (asked : GraphAsked) (path : List ℕ) where
   planning_fault (Check fault) is = is
   planning_fault _ is = absurd is
 
-  pub report_fault : AreReadable files (graph_paths asked) → (fault : CommandFault) → IsReportFault path (files path) fault → IsReportedFault files asked path fault
-  report_fault readable OutOfMemory is = tt
-  report_fault readable (CannotRead p) is = inr (readable, is.0, is.1)
-  report_fault readable (BadReport fault) is = (readable, is)
-  report_fault readable _ is = absurd is
+  pub report_fault : HasGraph files asked → (fault : CommandFault) → IsReportFault path (files path) fault → IsReportedFault files asked path fault
+  report_fault has OutOfMemory is = tt
+  report_fault has (CannotRead p) is = inr (has, is.0, is.1)
+  report_fault has (BadReport fault) is = (has, is)
+  report_fault has _ is = absurd is
 
   -- with what was read
   module _ (planned : Planned) (report : Report) (are : IsPlanned files asked planned) (readable : AreReadable files (graph_paths asked)) (is_read : IsReadOf (files path) report) where

@@ -12,7 +12,7 @@ use Rattle.bf_disk.specs.Files.{AreReadable, Files, IsFirstUntold, IsHeldIfNamed
 use Rattle.bf_planning.specs.Graphs.{IsGraph}
 use Rattle.bf_views.specs.Matching.{intervals_in, is_of_graph}
 use Rattle.bf_views.specs.Pages.{journal_path}
-use Rattle.bf_views.specs.Reported.{AreReportedReadable, IsReportedFault, OfReported}
+use Rattle.bf_views.specs.Reported.{AreReportedReadable, IsMatch, IsReportedFault, OfReported}
 use Rattle.bf_views.specs.Times.{IsJournalFault}
 
 -- the bytes say a graph without a fault and a report of it, and the journal is none of the graph and the report's runs
@@ -31,6 +31,7 @@ abbrev pub IsPageFault : Files → PageAsked → CommandFault → Type 0
 IsPageFault files asked (CannotRead path) =
     IsReportedFault files asked.graph (string_bytes asked.report) (CannotRead path)
     ⊎ (AreReportedReadable files asked.graph (string_bytes asked.report)
+    × OfReported files asked.graph (string_bytes asked.report) IsMatch
     × IsFirstUntold files (named_paths (journal_path asked)) path)
 IsPageFault files asked (Journal fault) =
     AreReportedReadable files asked.graph (string_bytes asked.report)

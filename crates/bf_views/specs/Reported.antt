@@ -1,5 +1,5 @@
 -- What a line's graph file and report hold, and why they can't be shown.
-use Rattle.std.specs.Prelude.{◌≡◌, ◌⊎◌, ℕ, false, List, Option}
+use Rattle.std.specs.Prelude.{◌≡◌, ◌⊎◌, ℕ, false, true, List, Option}
 use Rattle.bf_read.specs.declared.draft.Draft.{Draft}
 use Rattle.bf_check.specs.Checking.{dag_of}
 use Rattle.bf_report.specs.declared.report.Report.{Report}
@@ -12,7 +12,7 @@ use Rattle.bf_disk.specs.Files.{AreReadable, Files, IsFirstUntold, IsHeld, IsRea
 use Rattle.bf_input.specs.Inputs.{IsReportFault, OfFiles, graph_paths}
 use Rattle.bf_planning.specs.Graphs.{IsGraph}
 use Rattle.bf_views.specs.Matching.{is_of_graph}
-use Rattle.bf_views.specs.Planned.{IsPlanningFault}
+use Rattle.bf_views.specs.Planned.{HasGraph, IsPlanningFault}
 
 -- P holds of whatever the graph file, the zone file, and the report of this path are told to hold
 abbrev pub OfReported : Files → GraphAsked → List ℕ → (List ℕ → Option (List ℕ) → List ℕ → Type 0)
@@ -25,6 +25,14 @@ OfReported files asked path P =
 abbrev pub AreReportedReadable : Files → GraphAsked → List ℕ → Type 0
 AreReportedReadable files asked path =
     AreReadable files (graph_paths asked) × IsReadable (files path)
+
+-- the bytes say a graph without a fault and a report of it
+pub record IsMatch (graph : List ℕ) (zone : Option (List ℕ)) (held : List ℕ) : Type 0 where
+  pub draft : Draft
+  pub graph_says : IsGraph graph zone draft
+  pub report : Report
+  pub report_says : IsReadAs held report
+  pub matches : is_of_graph (dag_of draft) report ≡ true
 
 -- the bytes say a graph without a fault and a report, which isn't one of that graph
 pub record IsMismatch (graph : List ℕ) (zone : Option (List ℕ)) (held : List ℕ) : Type 0 where
@@ -40,11 +48,11 @@ abbrev pub IsReportedFault : Files → GraphAsked → List ℕ → CommandFault 
 IsReportedFault files asked report OutOfMemory = Unit {0}
 IsReportedFault files asked report (CannotWrite n) = AreReportedReadable files asked report
 IsReportedFault files asked report (CannotRead path) = IsFirstUntold files (graph_paths asked) path
-    ⊎ (AreReadable files (graph_paths asked) × (path ≡ report) × IsUntold (files report))
+    ⊎ (HasGraph files asked × (path ≡ report) × IsUntold (files report))
 IsReportedFault files asked report (Read fault) = IsPlanningFault files asked (Read fault)
 IsReportedFault files asked report (Check fault) = IsPlanningFault files asked (Check fault)
 IsReportedFault files asked report (BadReport fault) =
-    AreReadable files (graph_paths asked) × IsReportFault report (files report) (BadReport fault)
+    HasGraph files asked × IsReportFault report (files report) (BadReport fault)
 IsReportedFault files asked report (Clear ClearFault.ReportMismatch) =
     AreReportedReadable files asked report × OfReported files asked report IsMismatch
 IsReportedFault files asked report _ = ⊥

@@ -12,7 +12,7 @@ use Rattle.bf_views.specs.Explanations.{IsExplanation}
 use Rattle.bf_views.specs.Planned.{IsPlanningFault}
 use Rattle.bf_views.proofs.ExplainEnds.{asked_explains, explain_answer, memory_explains, planning_explains, report_explains, unmeant, unmeant_leaves, writing_explains}
 use Rattle.bf_views.proofs.PageEnds.{err_is, fails, is_writing}
-use Rattle.bf_views.proofs.ReportedEnds.{unwritten_leaves}
+use Rattle.bf_views.proofs.ReportedEnds.{has_graph, unwritten_leaves}
 use Rattle.bf_views.proofs.explain.answer_explain.Goals as goal
 
 pub returns-in_err-start : goal.returns-in_err-start
@@ -39,8 +39,9 @@ returns-in_err-report g c =
     let means = subst (λ (text : List ℕ). Means text c.in_ok-start.start) c.as_str.ensures.value c.in_ok-start.ensures.means in
     let path = string_bytes c.args.asked.report in
     let is = subst (λ (file : Option (Option (List ℕ))). IsReportFault path file c.in_err-report.field-0.0) (c.in_ok-planned.ensures.stays path) c.in_err-report.ensures.fault in
+    let has = has_graph files c.args.asked.graph c.in_ok-planned.planned c.in_ok-planned.ensures.plan c.in_ok-planned.ensures.readable in
     fails _ _ _ _ _ c.from_residual-in_err-report.ensures.1
-    (report_explains files c.args.asked c.in_ok-start.start means c.in_ok-planned.ensures.readable _ is)
+    (report_explains files c.args.asked c.in_ok-start.start means has _ is)
     (unwritten_leaves _ _ _ (IsReportFault path (files path)) (λ n is. is) _ is)
 
 pub returns-in_err-text : goal.returns-in_err-text

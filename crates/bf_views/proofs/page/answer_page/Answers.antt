@@ -5,7 +5,7 @@ use Rattle.bf_input.specs.inner.Inputs.{IsReadOf}
 use Rattle.bf_views.specs.Pages.{journal_path}
 use Rattle.bf_views.specs.inner.ReadFor.{IsReadForPage}
 use Rattle.bf_views.proofs.PageEnds.{err_is, report_page}
-use Rattle.bf_views.proofs.ReportedEnds.{unwritten_leaves}
+use Rattle.bf_views.proofs.ReportedEnds.{has_graph, unwritten_leaves}
 use Rattle.bf_views.proofs.page.answer_page.Goals as goal
 
 pub returns-in_err-report-clause-fault : goal.returns-in_err-report-clause-fault
@@ -13,7 +13,8 @@ returns-in_err-report-clause-fault g c =
     let files = g.S.Source.file c.args.files.now in
     let path = string_bytes c.args.asked.report in
     let is = subst (λ (f : Option (Option (List ℕ))). IsReportFault path f c.in_err-report.field-0.0) (c.in_ok-planned.ensures.stays path) c.in_err-report.ensures.fault in
-    err_is _ _ _ c.from_residual-in_err-report.ensures.1 (report_page files c.args.asked c.in_ok-planned.ensures.readable c.in_err-report.field-0.0 is)
+    let has = has_graph files c.args.asked.graph c.in_ok-planned.planned c.in_ok-planned.ensures.plan c.in_ok-planned.ensures.readable in
+    err_is _ _ _ c.from_residual-in_err-report.ensures.1 (report_page files c.args.asked has c.in_err-report.field-0.0 is)
 
 pub returns-in_err-report-clause-left : goal.returns-in_err-report-clause-left
 returns-in_err-report-clause-left g c =

@@ -10,9 +10,9 @@ use Rattle.bf_input.specs.inner.Inputs.{IsReadOf}
 use Rattle.bf_views.specs.Matching.{is_of_graph}
 use Rattle.bf_views.specs.Planned.{IsPlanningFault}
 use Rattle.bf_views.specs.inner.Refused.{IsRefusedBy}
-use Rattle.bf_views.proofs.GridEnds.{grid_answer, reported_fault, reversed_fault, reversed_leaves, unmeant_fault, unmeant_leaves}
+use Rattle.bf_views.proofs.GridEnds.{planned_fault, reported_fault, reversed_fault, reversed_leaves, unmeant_fault, unmeant_leaves}
 use Rattle.bf_views.proofs.PageEnds.{fails}
-use Rattle.bf_views.proofs.ReportedEnds.{planning_fault, refusal_fault, report_fault, unwritten_leaves, writing_fault}
+use Rattle.bf_views.proofs.ReportedEnds.{has_graph, report_fault, unwritten_leaves}
 use Rattle.bf_views.proofs.show.answer_show.Goals as goal
 
 pub returns-in_err-bounds : goal.returns-in_err-bounds
@@ -24,13 +24,15 @@ pub returns-in_err-planned : goal.returns-in_err-planned
 returns-in_err-planned g c =
     let files = g.S.Source.file c.args.files.now in
     fails _ _ _ _ _ c.from_residual-in_err-planned.ensures.1
-    (reported_fault files c.args.asked c.in_ok-bounds.bounds c.in_ok-bounds.ensures.means _ (planning_fault files c.args.asked.graph (string_bytes c.args.asked.report) _ c.in_err-planned.ensures.fault))
+    (planned_fault files c.args.asked c.in_ok-bounds.bounds c.in_ok-bounds.ensures.means _ c.in_err-planned.ensures.fault)
     (unwritten_leaves _ _ _ (IsPlanningFault files c.args.asked.graph) (λ n is. is) _ c.in_err-planned.ensures.fault)
 
 pub returns-in_err-refuse_reversed : goal.returns-in_err-refuse_reversed
 returns-in_err-refuse_reversed g c =
+    let files = g.S.Source.file c.args.files.now in
+    let has = has_graph files c.args.asked.graph c.in_ok-planned.planned c.in_ok-planned.ensures.plan c.in_ok-planned.ensures.readable in
     fails _ _ _ _ _ c.from_residual-in_err-refuse_reversed.ensures.1
-    (reversed_fault (g.S.Source.file c.args.files.now) c.args.asked c.in_ok-bounds.bounds c.in_ok-bounds.ensures.means c.in_ok-planned.ensures.readable _ c.in_err-refuse_reversed.ensures.err)
+    (reversed_fault files c.args.asked c.in_ok-bounds.bounds c.in_ok-bounds.ensures.means has _ c.in_err-refuse_reversed.ensures.err)
     (reversed_leaves _ _ _ c.in_ok-bounds.bounds _ c.in_err-refuse_reversed.ensures.err)
 
 pub returns-in_err-report : goal.returns-in_err-report
@@ -38,8 +40,9 @@ returns-in_err-report g c =
     let files = g.S.Source.file c.args.files.now in
     let path = string_bytes c.args.asked.report in
     let is = subst (λ (file : Option (Option (List ℕ))). IsReportFault path file c.in_err-report.field-0.0) (c.in_ok-planned.ensures.stays path) c.in_err-report.ensures.fault in
+    let has = has_graph files c.args.asked.graph c.in_ok-planned.planned c.in_ok-planned.ensures.plan c.in_ok-planned.ensures.readable in
     fails _ _ _ _ _ c.from_residual-in_err-report.ensures.1
-    (reported_fault files c.args.asked c.in_ok-bounds.bounds c.in_ok-bounds.ensures.means _ (report_fault files c.args.asked.graph path c.in_ok-planned.ensures.readable _ is))
+    (reported_fault files c.args.asked c.in_ok-bounds.bounds c.in_ok-bounds.ensures.means c.in_ok-refuse_reversed.ensures.ok _ (report_fault files c.args.asked.graph path has _ is))
     (unwritten_leaves _ _ _ (IsReportFault path (files path)) (λ n is. is) _ is)
 
 pub returns-clause-answer : goal.returns-clause-answer

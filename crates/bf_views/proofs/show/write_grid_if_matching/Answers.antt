@@ -15,7 +15,7 @@ pub returns-in_err-refuse_other_graph-clause-fault : goal.returns-in_err-refuse_
 returns-in_err-refuse_other_graph-clause-fault g c files asked canvas is =
     let refused = subst (λ (d : Dag). IsRefusedBy (is_of_graph d c.args.report.now) c.in_err-refuse_other_graph.field-0.0) c.dag.ensures.dag c.in_err-refuse_other_graph.ensures.err in
     err_is _ _ _ c.from_residual.ensures.1
-    (reported_fault files asked is.bounds is.means _ (refusal_fault files asked.graph (string_bytes asked.report) c.args.planned.now c.args.report.now is.plan is.readable is.read _ refused))
+    (reported_fault files asked is.bounds is.means is.ordered _ (refusal_fault files asked.graph (string_bytes asked.report) c.args.planned.now c.args.report.now is.plan is.readable is.read _ refused))
 
 pub returns-in_err-refuse_other_graph-clause-left : goal.returns-in_err-refuse_other_graph-clause-left
 returns-in_err-refuse_other_graph-clause-left g c files asked canvas is =
@@ -26,7 +26,7 @@ returns-in_err-refuse_other_graph-clause-left g c files asked canvas is =
 pub returns-in_err-write_view-clause-fault : goal.returns-in_err-write_view-clause-fault
 returns-in_err-write_view-clause-fault g c files asked canvas is =
     err_is _ _ _ c.from_residual-in_err-write_view.ensures.1
-    (reported_fault files asked is.bounds is.means _ (writing_fault files asked.graph (string_bytes asked.report) c.args.planned.now c.args.report.now is.plan is.readable is.read _ c.in_err-write_view.ensures.fault))
+    (reported_fault files asked is.bounds is.means is.ordered _ (writing_fault files asked.graph (string_bytes asked.report) c.args.planned.now c.args.report.now is.plan is.readable is.read _ c.in_err-write_view.ensures.fault))
 
 pub returns-in_err-write_view-clause-left : goal.returns-in_err-write_view-clause-left
 returns-in_err-write_view-clause-left g c files asked canvas is =
