@@ -283,9 +283,9 @@ where
 
 /// Does `clear`, or `run --keep` and `dry --keep`, which clear nothing: makes the tries that aren't kept, records them
 /// where a journal is named, and writes the new report. `Err` where a moment is bad, the launcher can't be started, a
-/// file other than the report can't be read, or the graph, the table, the range, the report, what to clear or the
-/// journal is refused, checked in this order; also where the backfill stops early, `out` fails, or memory runs out. At
-/// `Err`, `out` got nothing but the bytes that `CannotWrite` counts.
+/// file other than the report can't be read, or the graph, the table, the range, the report's lines, what to clear, a
+/// report of another graph or range, or the journal is refused, checked in this order; also where the backfill stops
+/// early, `out` fails, or memory runs out. At `Err`, `out` got nothing but the bytes that `CannotWrite` counts.
 pub fn answer_clear<
     RT: Starter + Screen + Threads + Wait + Clock + Sync,
     J: Journals + Launchers,

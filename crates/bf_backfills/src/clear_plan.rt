@@ -38,9 +38,9 @@ fn write_plan<W: Write>(alloc: Global, ready: ReadyToClear, out: &mut W) -> Resu
 }
 
 /// Does `clear --plan`: writes what `clear` would make again, and starts no program. `Err` where a moment is bad, a
-/// file other than the report can't be read, or the graph, the range, the report or what to clear is refused, checked
-/// in this order; also where `out` fails or memory runs out. At `Err`, `out` got nothing but the bytes that
-/// `CannotWrite` counts.
+/// file other than the report can't be read, or the graph, the range, the report's lines, what to clear, or a report of
+/// another graph or range is refused, checked in this order; also where `out` fails or memory runs out. At `Err`, `out`
+/// got nothing but the bytes that `CannotWrite` counts.
 pub fn answer_clear_plan<S: Source, W: Write>(
     alloc: Global,
     asked: ClearPlanAsked,

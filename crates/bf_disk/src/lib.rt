@@ -2,7 +2,7 @@
 //! system, and files in memory.
 //!
 //! - [`Source`] reads, [`Journals`] opens and locks, [`Launchers`] tells whether a program can be started. [`Disk`] is all of
-//!   them over the system; [`StoredFiles`] over memory, where a contract can say which bytes a path has.
+//!   them over the system. [`StoredFiles`] is a source in memory, where a contract can say which bytes a path has.
 //! - [`NewFile`] replaces a file: it is written beside the old one, with its permissions, and renamed once it is whole.
 #![tactic(auto)]
 

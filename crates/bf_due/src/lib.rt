@@ -9,8 +9,8 @@
 //!   unfinished. Such a task is asked only where its rule looks for what has just finished and its past is known, where a
 //!   branch says more, and once all of its upstreams are settled, so that no end counts all instances again.
 //! - **Cursors** say for which upstream a task waits, which instance hasn't finished, which task isn't settled. What they
-//!   have passed stays as it is, so each edge, instance and task is passed once a run. The core is asked of a task once
-//!   no upstream is left, and not before it decides one that waits for upstreams alone.
+//!   have passed stays as it is, so each edge, instance and task is passed once a run. The core is asked about a task once
+//!   no upstream is left, so never in vain about one that waits for upstreams alone.
 //!
 //! The caller asks for room before an event, and tells of it afterwards, which takes no memory.
 #![tactic(auto)]

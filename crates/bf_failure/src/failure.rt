@@ -6,8 +6,8 @@ use crate::detail::Detail;
 use bf_value::Text;
 use std::fmt;
 
-/// Why a try failed. A program whose output is too long or can't be read is read no further, and mostly dies of a
-/// signal for that: then the output counts as the cause.
+/// Why a try failed. Without logs, a program whose output is too long or can't be read is read no further, and mostly dies
+/// of a signal for that: then the output counts as the cause.
 #[derive(Debug, Drop)]
 pub enum Failure {
     /// The program ended with this exit status, which is neither 0 nor 99.

@@ -1,6 +1,6 @@
 //! How far a backfill is, told while it runs.
 //!
-//! `Progress` is noted each event as it comes, and writes nothing then. A thread of its own, `keep_up`, looks once a second what is
+//! `Progress` notes each event as it comes, and writes nothing then. In a thread of its own `tell_until_ended` looks once a second what is
 //! to be told: how far the backfill is, where that has changed, and the try that runs longest, where nothing comes for a minute. So
 //! a line that was held back is shown when its second is over, and what it counts is what runs at that moment.
 //!
