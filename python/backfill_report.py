@@ -16,6 +16,7 @@ import argparse
 import contextlib
 import dataclasses
 import json
+import os
 import sqlite3
 import sys
 from typing import Any, Dict, Iterable, Iterator, List, Mapping, Optional, Tuple
@@ -149,16 +150,24 @@ def main(words: List[str]) -> int:
     parser.add_argument("report", help="the report, or - for standard input")
     parser.add_argument("--sqlite", metavar="PATH", help="the database whose table `report` gets the rows")
     asked = parser.parse_args(words)
-    with sys.stdin if asked.report == "-" else open(asked.report, encoding="utf-8", newline="\n") as report:
-        try:
+    try:
+        with sys.stdin if asked.report == "-" else open(asked.report, encoding="utf-8", newline="\n") as report:
             if asked.sqlite:
                 to_sqlite(read_report(report), asked.sqlite)
             else:
                 for row in read_report(report):
                     print(json.dumps(row.to_dict(), ensure_ascii=False, separators=(",", ":")))
-        except (ReportError, UnicodeDecodeError) as error:
-            print(f"refused: {error}", file=sys.stderr)
-            return 2
+                sys.stdout.flush()
+    except (ReportError, UnicodeDecodeError) as error:
+        print(f"refused: {error}", file=sys.stderr)
+        return 2
+    except BrokenPipeError:
+        # Whoever reads the rows has enough of them, as `head`. (What is flushed at the end goes nowhere.)
+        os.dup2(os.open(os.devnull, os.O_WRONLY), sys.stdout.fileno())
+        return 141
+    except (OSError, sqlite3.Error) as error:
+        print(f"fault: {error}", file=sys.stderr)
+        return 3
     return 0
 
 

@@ -7,19 +7,19 @@ source "$(dirname "$(readlink -f "${BASH_SOURCE[0]}")")/../shared/count.sh"
 command -v python3 > /dev/null || skips_rest 'reports in sqlite and pandas: no python3'
 mapfile -t lines < <(awk '/^python3 python\/backfill_report.py/ { inside = 1 } /^```/ { inside = 0 } inside' "$root/docs/GUIDE.md")
 cd "$work"
-ln -s "$root/python" python
+ln -s "$root/python" "$root/examples" "$root/backfill" .
 cp "$root/examples/failed_day/report.txt" .
-"$program" show --json report.txt > instances.jsonl
 
-is_same 'how many lines' 3 "${#lines[@]}"
+is_same 'how many lines' 4 "${#lines[@]}"
 holds 'a table of a report' bash -c "${lines[0]}"
 if [[ -n $(command -v sqlite3) ]]; then
     is_same 'what failed, by sqlite' 'total|1' "$(bash -c "${lines[1]}")"
 else
     skips 'what failed, by sqlite'
 fi
+holds 'lines of JSON' bash -c "${lines[2]}"
 if python3 -c 'import pandas' 2> /dev/null; then
-    is_same 'states, by pandas' 'state failed 1 success 7 upstream_failed 1 dtype: int64' "$(bash -c "${lines[2]}" | xargs)"
+    is_same 'states, by pandas' 'state failed 1 success 7 upstream_failed 1 dtype: int64' "$(bash -c "${lines[3]}" | xargs)"
 else
     skips 'states, by pandas'
 fi

@@ -52,4 +52,20 @@ else
     skips 'that they can be installed, since there is no pip with setuptools and wheel'
 fi
 
+# A reader that has enough, and what can't be read or written.
+rows_of=$root/python/backfill_report.py
+{
+    printf '%s\n' '@backfill 2 d' '@run 2024-01-01T00:00:00Z 2024-01-02T00:00:00Z success'
+    printf 't%d -1 success 1 -\n' {1..2000}
+    echo '@end 1'
+} > "$work/report"
+python3 "$rows_of" "$work/report" 2> "$work/said" | head -n 1 > "$work/first" || true
+is_same 'rows of which the first is enough' '1 ' "$(wc -l < "$work/first") $(< "$work/said")"
+status=0
+python3 "$rows_of" "$work/none" 2> "$work/said" || status=$?
+is_same "a report that isn't there" "3 fault: [Errno 2] No such file or directory: '$work/none'" "$status $(< "$work/said")"
+status=0
+python3 "$rows_of" "$work/report" --sqlite "$work" 2> "$work/said" || status=$?
+is_same 'a database that is a folder' '3 fault: unable to open database file' "$status $(< "$work/said")"
+
 sum

@@ -1,6 +1,6 @@
 #!/usr/bin/env bash
 # Runs ./release in a clone of what is committed, with the program that ./backfill starts: the same bytes come twice, the sum fits, and
-# the archive has the files that the README tells, and no other. The lines of its pages are run where it is unpacked. What isn't committed
+# the archive has the files of a release, and no other. The lines of its pages are run where it is unpacked. What isn't committed
 # is refused. Needs the git repository. The last line is the sum, and the status is 1 where something differs.
 set -euo pipefail
 
