@@ -12,7 +12,8 @@
 What `backfill check` would refuse is a GraphError where it is written, or at the end of the `with` block where that takes the whole
 graph, as a pull from a task that may not have settled; its words and numbers are those of `backfill check`.
 
-And the other way round: `python3 backfill_graph.py < graph.json` prints such a program for a graph file.
+And the other way round: `python3 backfill_graph.py < graph.json` prints such a program for a graph file; one that `backfill check` would
+refuse is refused here too, with status 2.
 """
 
 from __future__ import annotations
@@ -21,9 +22,10 @@ import datetime
 import json
 import keyword
 import re
+import shlex
 import sys
 from types import TracebackType
-from typing import Any, Dict, Iterator, List, Mapping, Optional, Sequence, Set, TextIO, Tuple, Type, TypeVar, Union
+from typing import Any, Callable, Dict, Iterator, List, Mapping, NoReturn, Optional, Sequence, Set, TextIO, Tuple, Type, TypeVar, Union
 
 __all__ = ["Branch", "Graph", "GraphError", "Group", "Task", "Word", "context", "item", "pull"]
 
@@ -54,14 +56,44 @@ BOUNDS: Mapping[str, Tuple[int, int]] = {
 }
 # The keys that Graph(.., defaults=..) may give to each task.
 DEFAULT_KEYS = ("rule", "depends_on_past", "retries", "retry_delay", "pool", "pool_slots", "priority_weight", "weight_rule")
+# The keys of a graph file and of its tasks.
+GRAPH_KEYS = ("dag_id", "schedule", "zone", "max_active_runs", "pools", "tasks")
+TASK_KEYS = ("id", "upstream", "kind", "command", "expand", *DEFAULT_KEYS)
+# What Airflow's arguments of operators and DAGs are called here, or what is done in their place.
+TASK_WORDS: Mapping[str, str] = {
+    "trigger_rule": "is called rule here",
+    "bash_command": 'is the command here, as ["sh", "-c", "..."]',
+    "python_callable": 'is a program here, as command=["python3", "FILE.py"]',
+    "op_args": "are words of the command here",
+    "op_kwargs": "are words of the command here",
+    "env": "is set by the command here, as env NAME=VALUE PROGRAM",
+    "execution_timeout": "is the program timeout here, in front of the command",
+    "retry_exponential_backoff": "isn't there: retry_delay stays the same",
+    "dag": "is called graph here",
+    "task_group": "is a block here: with graph.group(NAME)",
+}
+GRAPH_WORDS: Mapping[str, str] = {
+    "schedule_interval": "is called schedule here",
+    "timetable": "is a schedule here: cron or a preset",
+    "default_args": "are called defaults here",
+    "start_date": "is --from on the command line here",
+    "end_date": "is --to on the command line here",
+    "catchup": "isn't there: the command line says which days run",
+    "max_active_tasks": "is --workers on the command line here",
+    "concurrency": "is --workers on the command line here",
+    "tz": "is called zone here",
+    "timezone": "is called zone here",
+}
 
 
 class GraphError(ValueError):
-    """What `backfill check` refuses, by its number and words; without a number, what can't be said in a graph file."""
+    """What `backfill check` refuses, by its number and words; without a number, what can't be said in a graph file. Behind the words may stand
+    the line that made a task, or what was meant."""
 
-    def __init__(self, words: str, number: Optional[int] = None, line: Optional[str] = None) -> None:
+    def __init__(self, words: str, number: Optional[int] = None, line: Optional[str] = None, hint: Optional[str] = None) -> None:
         told = words if number is None else f"refused {number} {words}"
-        super().__init__(told if line is None else f"{told} ({line})")
+        told = told if line is None else f"{told} ({line})"
+        super().__init__(told if hint is None else f"{told}: {hint}")
         self.words = words
         self.number = number
 
@@ -166,10 +198,13 @@ def _check_schedule(schedule: str) -> None:
 
 # ---- zones
 
-_NAME = r"(?:[A-Za-z]{3,}|<[A-Za-z0-9+-]{3,}>)"
-_CLOCK = r"[+-]?[0-9]{1,3}(?::[0-9]{2}(?::[0-9]{2})?)?"
+# (as `jiff` reads a POSIX rule: a name has 3 to 15 characters, the hours of an offset at most two digits, those of a change three)
+_NAME = r"(?:[A-Za-z]{3,15}|<[A-Za-z0-9+-]{3,15}>)"
+_MINUTES = r"(?::[0-9]{2}(?::[0-9]{2})?)?"
+_OFFSET = rf"[+-]?[0-9]{{1,2}}{_MINUTES}"
+_CHANGE = rf"[+-]?[0-9]{{1,3}}{_MINUTES}"
 _DAY = r"M[0-9]{1,2}\.[0-9]\.[0-9]|J?[0-9]{1,3}"
-_ZONE_RULE = re.compile(rf"{_NAME}({_CLOCK})(?:{_NAME}({_CLOCK})?,({_DAY})(?:/({_CLOCK}))?,({_DAY})(?:/({_CLOCK}))?)?")
+_ZONE_RULE = re.compile(rf"{_NAME}({_OFFSET})(?:{_NAME}({_OFFSET})?,({_DAY})(?:/({_CHANGE}))?,({_DAY})(?:/({_CHANGE}))?)?")
 
 
 def _is_clock(text: str, most_hours: int) -> bool:
@@ -236,21 +271,67 @@ def _list(values: Sequence[Any], path: str) -> Sequence[Any]:
     return values
 
 
-Tasks = Union["Task", Sequence["Task"]]
-Behind = TypeVar("Behind", "Task", Sequence["Task"])
+def _words(command: Sequence[Any], path: str) -> Sequence[Any]:
+    """The words of a command, which isn't one text."""
+    if isinstance(command, str):
+        try:
+            words = shlex.split(command)
+        except ValueError:
+            words = [command]
+        ways = f'{json.dumps(words)} or {json.dumps(["sh", "-c", command])}'
+        raise GraphError(f"shape: {path}", 2, hint=f"command is a list of words: {ways}")
+    return _list(command, path)
 
 
-def _all_of(tasks: Tasks) -> Sequence[Task]:
-    return [tasks] if isinstance(tasks, Task) else tasks
+def _refuse_keywords(kind: str, given: Mapping[str, Any], words: Mapping[str, str]) -> None:
+    """Refuses what a call doesn't take; for a name of Airflow's says what it is here."""
+    for name in given:
+        if name in words:
+            raise TypeError(f"{name} {words[name]}")
+        raise TypeError(f"{kind}() got an unexpected keyword argument {name!r}")
 
 
-def _link(upstreams: Tasks, downstreams: Tasks) -> None:
-    for upstream in _all_of(upstreams):
-        for downstream in _all_of(downstreams):
+Behind = TypeVar("Behind")
+
+
+def _edge_tasks(tasks: Any, tasks_of_group: Callable[[Group], List[Task]]) -> List[Task]:
+    """The tasks of one side of `>>`: a task, those of a group that lie on this side, or those of a list of both."""
+    if isinstance(tasks, Task):
+        return [tasks]
+    if isinstance(tasks, Group):
+        return tasks_of_group(tasks)
+    if isinstance(tasks, (list, tuple)):
+        return [task for each in tasks for task in _edge_tasks(each, tasks_of_group)]
+    raise TypeError(f"a task, a group or a list of them stands beside >> and <<, not {tasks!r}")
+
+
+def _link(upstreams: Any, downstreams: Any) -> None:
+    for upstream in _edge_tasks(upstreams, Group.leaves):
+        for downstream in _edge_tasks(downstreams, Group.roots):
             downstream.graph._add_edge(upstream, downstream)
 
 
-class Task:
+class _Linked:
+    """What stands beside `>>` and `<<`, which put tasks behind each other, as `extract >> [load, check] >> publish`."""
+
+    def __rshift__(self, downstreams: Behind) -> Behind:
+        _link(self, downstreams)
+        return downstreams
+
+    def __lshift__(self, upstreams: Behind) -> Behind:
+        _link(upstreams, self)
+        return upstreams
+
+    def __rrshift__(self: Behind, upstreams: Sequence[Any]) -> Behind:
+        _link(upstreams, self)
+        return self
+
+    def __rlshift__(self: Behind, downstreams: Sequence[Any]) -> Behind:
+        _link(self, downstreams)
+        return self
+
+
+class Task(_Linked):
     """A task of the graph whose `with` block is open, or of `graph`.
 
     The keys are those of a graph file, and one that isn't given isn't written. `upstream` takes tasks or ids, and so does `expand`; tasks
@@ -276,11 +357,13 @@ class Task:
         priority_weight: Optional[int] = None,
         weight_rule: Optional[str] = None,
         graph: Optional[Graph] = None,
+        **others: Any,
     ) -> None:
+        _refuse_keywords(type(self).__name__, others, TASK_WORDS)
         self.graph = graph if graph is not None else Graph.current()
         path = f"tasks[{len(self.graph.tasks)}]"
         self.id = self.graph.prefix + _text(task_id, f"{path}.id")
-        self.command = list(_list(command, f"{path}.command"))
+        self.command = list(_words(command, f"{path}.command"))
         # (a dict for its order, and to find an id at once)
         self.upstream = {self.graph.id_of(each, f"{path}.upstream"): None for each in _list(upstream, f"{path}.upstream")}
         self.expand = None if expand is None else self.graph.id_of(expand, f"{path}.expand")
@@ -299,22 +382,6 @@ class Task:
     def item(self) -> Word:
         """The item of an instance of a task that is expanded over this one."""
         return Word("item", True, f"{self!r}.item", self)
-
-    def __rshift__(self, downstreams: Behind) -> Behind:
-        _link(self, downstreams)
-        return downstreams
-
-    def __lshift__(self, upstreams: Behind) -> Behind:
-        _link(upstreams, self)
-        return upstreams
-
-    def __rrshift__(self, upstreams: Sequence[Task]) -> Task:
-        _link(upstreams, self)
-        return self
-
-    def __rlshift__(self, downstreams: Sequence[Task]) -> Task:
-        _link(self, downstreams)
-        return self
 
     def to_dict(self) -> Dict[str, Any]:
         """The task as it stands in a graph file."""
@@ -344,20 +411,43 @@ def _line_of_caller() -> str:
 # ---- graphs
 
 
-class Group:
-    """A prefix of the ids of the tasks in its `with` block, as Airflow's task groups have one: `load.` for the group `load`."""
+class Group(_Linked):
+    """A prefix of the ids of the tasks in its `with` block, as Airflow's task groups have one: `load.` for the group `load`. Beside `>>` and
+    `<<` it stands for its tasks: those before others of it are none of its leaves, and those behind others none of its roots."""
 
     def __init__(self, graph: Graph, name: str) -> None:
         self._graph = graph
         self._name = name
+        self._tasks: List[Task] = []
+
+    def __repr__(self) -> str:
+        return f"Group({self._name!r})"
 
     def __enter__(self) -> Group:
         self._outer = self._graph.prefix
         self._graph.prefix = f"{self._outer}{self._name}."
+        self._graph._groups.append(self)
         return self
 
     def __exit__(self, kind: Optional[Type[BaseException]], error: Optional[BaseException], trace: Optional[TracebackType]) -> None:
         self._graph.prefix = self._outer
+        self._graph._groups.remove(self)
+
+    def tasks(self) -> List[Task]:
+        """The tasks of the group and of those within it, as they were made."""
+        if not self._tasks:
+            raise GraphError(f"the group {self._name} has no tasks")
+        return self._tasks
+
+    def roots(self) -> List[Task]:
+        """The tasks that are behind none of the group's."""
+        ids = {task.id for task in self.tasks()}
+        return [task for task in self.tasks() if ids.isdisjoint(task.upstream)]
+
+    def leaves(self) -> List[Task]:
+        """The tasks that are before none of the group's."""
+        before = {upstream for task in self.tasks() for upstream in task.upstream}
+        return [task for task in self.tasks() if task.id not in before]
 
 
 class Graph:
@@ -374,7 +464,9 @@ class Graph:
         max_active_runs: Optional[int] = None,
         pools: Optional[Mapping[str, int]] = None,
         defaults: Optional[Mapping[str, Any]] = None,
+        **others: Any,
     ) -> None:
+        _refuse_keywords("Graph", others, GRAPH_WORDS)
         self.dag_id = dag_id
         self.schedule = schedule
         self.zone = zone
@@ -385,6 +477,7 @@ class Graph:
         self.defaults = dict(defaults or {})
         self.tasks: Dict[str, Task] = {}
         self.prefix = ""
+        self._groups: List[Group] = []
         self._edges = 0
         self._below: Dict[str, List[str]] = {}
         self._check_keys()
@@ -406,7 +499,8 @@ class Graph:
                 raise GraphError("limit passed: pools", 5)
         for key in self.defaults:
             if key not in DEFAULT_KEYS:
-                raise GraphError(f"no default for {key!r}, but for {', '.join(DEFAULT_KEYS)}")
+                hint = f"{key} {TASK_WORDS[key]}" if key in TASK_WORDS else None
+                raise GraphError(f"no default for {key!r}, but for {', '.join(DEFAULT_KEYS)}", hint=hint)
         _check_schedule(self.schedule)
         _check_zone("UTC" if self.zone is None else self.zone)
 
@@ -448,6 +542,8 @@ class Graph:
             raise GraphError("limit passed: tasks", 5)
         self._check_task(task, path)
         self.tasks[task.id] = task
+        for group in self._groups:
+            group._tasks.append(task)
         upstreams, task.upstream = task.upstream, {}
         try:
             for upstream in upstreams:
@@ -459,6 +555,8 @@ class Graph:
     def _remove(self, task: Task) -> None:
         """Takes away a task, behind which none stands yet, whose edges are refused."""
         del self.tasks[task.id]
+        for group in self._groups:
+            group._tasks.remove(task)
         for upstream in task.upstream:
             self._below[upstream].remove(task.id)
         self._edges -= len(task.upstream)
@@ -612,9 +710,54 @@ def _check_command(task: Task, path: str) -> None:
 # ---- from a graph file to Python
 
 
+def _object(value: Any, keys: Sequence[str], required: Sequence[str], path: str) -> Dict[str, Any]:
+    """An object with no other keys than these, and with the required ones."""
+    if not isinstance(value, dict) or not value.keys() <= set(keys):
+        raise GraphError(f"shape: {path}", 2)
+    for key in keys:
+        if value.get(key, "") is None or key in required and key not in value:
+            raise GraphError(f"shape: {key}" if path == "top" else f"shape: {path}.{key}", 2)
+    return value
+
+
+def _word_of(word: Any, path: str) -> Union[str, Word]:
+    if isinstance(word, str):
+        return word
+    [(key, value)] = word.items() if isinstance(word, dict) and len(word) == 1 else [("", "")]
+    if key == "context" and value in CONTEXTS:
+        made: Word = getattr(context, value)
+        return made
+    if key == "pull" and isinstance(value, str):
+        return pull(value)
+    if key == "item" and value is True:
+        return item
+    raise GraphError(f"shape: {path}", 2)
+
+
+def _add_task_of(value: Any, path: str) -> None:
+    """Makes a task of a graph file in the graph whose block is open."""
+    keys = dict(_object(value, TASK_KEYS, ["id"], path))
+    kind = keys.pop("kind", "program")
+    if kind not in ("program", "branch"):
+        raise GraphError(f"shape: {path}.kind", 2)
+    command = _list(keys.pop("command", ()), f"{path}.command")
+    make = Branch if kind == "branch" else Task
+    make(keys.pop("id"), [_word_of(word, f"{path}.command") for word in command], **keys)
+
+
+def graph_of(file: Any) -> Graph:
+    """The graph of a graph file that was read as JSON. What `backfill check` would refuse is a GraphError."""
+    keys = dict(_object(file, GRAPH_KEYS, ["dag_id", "schedule", "tasks"], "top"))
+    tasks = _list(keys.pop("tasks"), "tasks")
+    with Graph(keys.pop("dag_id"), **keys) as graph:
+        for number, task in enumerate(tasks):
+            _add_task_of(task, f"tasks[{number}]")
+    return graph
+
+
 def _names_of(ids: Sequence[str]) -> Dict[str, str]:
-    """A variable for each task."""
-    taken = {"print", "graph", "context", "item", "pull", "Graph", "Task", "Branch", *keyword.kwlist}
+    """A variable for each task: no name of Python's own, and none that the program has."""
+    taken = {"print", "graph", "context", "item", "pull", "Graph", "Task", "Branch", "__debug__", *keyword.kwlist}
     names: Dict[str, str] = {}
     for task_id in ids:
         base = re.sub("[^A-Za-z0-9_]", "_", task_id)
@@ -627,42 +770,54 @@ def _names_of(ids: Sequence[str]) -> Dict[str, str]:
     return names
 
 
-def _word_text(word: Any, names: Mapping[str, str], made: Set[str]) -> str:
-    if isinstance(word, str):
-        return repr(word)
-    [(key, value)] = word.items()
-    if key == "context":
-        return f"context.{value}"
-    return "item" if key == "item" else f"pull({names[value] if value in made else repr(value)})"
+def _word_text(word: Union[str, Word], names: Mapping[str, str], made: Set[str]) -> str:
+    if isinstance(word, Word) and word.key == "pull" and word.value in made:
+        return f"pull({names[str(word.value)]})"
+    return repr(word)
 
 
-def python_of(file: Mapping[str, Any]) -> Iterator[str]:
-    """The lines of a program that makes the graph of a file."""
+def python_of(file: Any) -> Iterator[str]:
+    """The lines of a program that makes the graph of a file that was read as JSON. What `backfill check` would refuse is a GraphError, so
+    that of the file only names, numbers and quoted texts come into the program."""
+    graph = graph_of(file)
     yield "from backfill_graph import Branch, Graph, Task, context, item, pull"
     yield ""
-    keys = "".join(f", {key}={file[key]!r}" for key in ("schedule", "zone", "max_active_runs", "pools") if key in file)
-    yield f"with Graph({file['dag_id']!r}{keys}) as graph:"
-    names = _names_of([task["id"] for task in file["tasks"]])
+    given = {"schedule": graph.schedule, "zone": graph.zone, "max_active_runs": graph.max_active_runs, "pools": graph.pools}
+    keys = "".join(f", {key}={value!r}" for key, value in given.items() if value is not None)
+    yield f"with Graph({graph.dag_id!r}{keys}) as graph:"
+    names = _names_of(list(graph.tasks))
     made: Set[str] = set()
     later: List[str] = []
-    for task in file["tasks"]:
-        words = ", ".join(_word_text(word, names, made) for word in task.get("command", ()))
-        kind = "Branch" if task.get("kind") == "branch" else "Task"
-        texts = [repr(task["id"]), *([f"[{words}]"] if words else [])]
-        if "expand" in task:
-            texts.append(f"expand={names[task['expand']] if task['expand'] in made else repr(task['expand'])}")
-        texts += [f"{key}={task[key]!r}" for key in DEFAULT_KEYS if key in task]
-        yield f"    {names[task['id']]} = {kind}({', '.join(texts)})"
-        made.add(task["id"])
-        later += [f"    {names[upstream]} >> {names[task['id']]}" for upstream in dict.fromkeys(task.get("upstream", ()))]
-    yield from later or ([] if file["tasks"] else ["    pass"])
+    for task in graph.tasks.values():
+        words = ", ".join(_word_text(word, names, made) for word in task.command)
+        texts = [repr(task.id), *([f"[{words}]"] if words else [])]
+        if task.expand is not None:
+            texts.append(f"expand={names[task.expand] if task.expand in made else repr(task.expand)}")
+        texts += [f"{key}={task.keys[key]!r}" for key in DEFAULT_KEYS if task.keys[key] is not None]
+        yield f"    {names[task.id]} = {type(task).__name__}({', '.join(texts)})"
+        made.add(task.id)
+        later += [f"    {names[upstream]} >> {names[task.id]}" for upstream in task.upstream]
+    yield from later or ([] if graph.tasks else ["    pass"])
     yield "print(graph.to_json())"
 
 
-def main(graph_file: TextIO) -> None:
-    for line in python_of(json.load(graph_file)):
-        print(line)
+def _refuse_constant(text: str) -> NoReturn:
+    raise ValueError(text)
+
+
+def main(graph_file: TextIO) -> int:
+    try:
+        file = json.load(graph_file, parse_constant=_refuse_constant)
+        lines = list(python_of(file))
+    except GraphError as error:
+        print(f"refused {error.number} {error.words}", file=sys.stderr)
+        return 2
+    except (ValueError, RecursionError):
+        print("refused 1 not json", file=sys.stderr)
+        return 2
+    print("\n".join(lines))
+    return 0
 
 
 if __name__ == "__main__":
-    main(sys.stdin)
+    sys.exit(main(sys.stdin))

@@ -152,10 +152,12 @@ class Zone:
         raise AssertionError(f"{civil} is neither shown nor jumped over")
 
 
-NAME = r"(?:[A-Za-z]{3,}|<[A-Za-z0-9+-]{3,}>)"
-CLOCK = r"[+-]?[0-9]{1,3}(?::[0-9]{2}(?::[0-9]{2})?)?"
+NAME = r"(?:[A-Za-z]{3,15}|<[A-Za-z0-9+-]{3,15}>)"
+MINUTES = r"(?::[0-9]{2}(?::[0-9]{2})?)?"
+OFFSET = rf"[+-]?[0-9]{{1,2}}{MINUTES}"
+CHANGE = rf"[+-]?[0-9]{{1,3}}{MINUTES}"
 RULE_DAY = r"M[0-9]{1,2}\.[0-9]\.[0-9]|J?[0-9]{1,3}"
-RULE = re.compile(rf"{NAME}({CLOCK})(?:{NAME}({CLOCK})?,({RULE_DAY})(?:/({CLOCK}))?,({RULE_DAY})(?:/({CLOCK}))?)?")
+RULE = re.compile(rf"{NAME}({OFFSET})(?:{NAME}({OFFSET})?,({RULE_DAY})(?:/({CHANGE}))?,({RULE_DAY})(?:/({CHANGE}))?)?")
 
 
 def seconds_of(text, most_hours):
@@ -384,6 +386,7 @@ RULES = [
     *["IST-1GMT0,M10.5.0,M3.5.0/1", "<-02>2<-01>,M3.5.0/-1,M10.5.0/0", "EET-2EEST,M3.4.4/50,M10.4.4/50", "EET-2EEST,M4.5.5/0,M10.5.4/24"],
     *["NST3:30NDT,M3.2.0,M11.1.0", "CST5CDT,M3.2.0/0,M11.1.0/1", "<+1245>-12:45<+1345>,M9.5.0/2:45,M4.1.0/3:45", "UTC0", "<-0044>0:44:30"],
     *["<+00>0<+02>-2,M3.5.0/1,M10.5.0/3", "<-04>4<-03>,M9.1.6/24,M4.1.6/24", "XXX3EDT4,0/0,J365/23", "AAA-24:59:59", "AAA24:59:59", "utc0"],
+    *["Abcdefghijklmno5", "<+23456789012345>5", "EET-2EEST,M3.4.4/050,M10.4.4/167"],
 ]
 BAD_ZONES = [
     *["", "utc", "Utc", "Z", "UTC ", " UTC", "GMT", "Europe/Paris", "local", "File", "file ", "+1:00", "01:00", "+0100", "+24:00"],
@@ -392,7 +395,8 @@ BAD_ZONES = [
     *["EST5EDT,M3.0.0,M11.1.0", "EST5EDT,M3.1.7,M11.1.0", "EST5EDT,J0,J100", "EST5EDT,J1,J366", "EST5EDT,1,366"],
     *["EST5EDT,M3.2.0/168,M11.1.0", "EST5EDT,M3.2.0,M11.1.0,", "EST5EDT,M3.2.0/,M11.1.0", "EST5EDT,M3.2,M11.1.0"],
     *["EST5EDT, M3.2.0,M11.1.0", "EST5EDT M3.2.0,M11.1.0", ":EST5", "<EST5", "<E>5", "EST5,", "EST5EDT,M3.2.0,M11.1.0 "],
-    *["EST5EDT,M3.2.0,M11.1.0/2x", "E5T5"],
+    *["EST5EDT,M3.2.0,M11.1.0/2x", "E5T5", "UTC024", "UTC-005", "<+03>003", "EST5EDT004,M3.2.0,M11.1.0", "Abcdefghijklmnop5", "<+234567890123456>5"],
+    *["EET-2EEST,M3.4.4/0050,M10.4.4/50"],
 ]
 
 

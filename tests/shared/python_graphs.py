@@ -2,7 +2,8 @@
 """Tries python/backfill_graph.py over graph files: python_graphs.py PROGRAM FOLDER COUNT
 
 The examples, read and written again, are what they were; so are the graphs that go by chance, which faults.py makes, and of COUNT of these
-just those are refused in Python that `check` of the program refuses. The last line is how many were right, and how many not.
+just those are refused in Python that `check` of the program refuses, when they are written by calls and when they are read. So it goes with
+the zones of intervals.py. The last line is how many were right, and how many not.
 """
 import contextlib
 import io
@@ -16,6 +17,7 @@ ROOT = pathlib.Path(__file__).resolve().parents[2]
 sys.path[:0] = [str(ROOT / "tests/oracles"), str(ROOT / "python")]
 import backfill_graph  # noqa: E402
 import faults  # noqa: E402
+import intervals  # noqa: E402
 from rows import holds, tell  # noqa: E402
 
 PROGRAM, FOLDER, COUNT = sys.argv[1], pathlib.Path(sys.argv[2]), int(sys.argv[3])
@@ -88,6 +90,15 @@ def error_of(file):
     return None
 
 
+def error_of_file(file):
+    """The error by which a graph file isn't written in Python, or None."""
+    try:
+        list(backfill_graph.python_of(file))
+    except backfill_graph.GraphError as error:
+        return error
+    return None
+
+
 def without_null(file):
     """Takes out keys that have no value, which in Python is a key that isn't given."""
     if not isinstance(file, dict) or not isinstance(file.get("tasks"), list):
@@ -111,6 +122,7 @@ def by_chance(seed):
         return
     told, error = told_by_check(file), error_of(file)
     holds(f"whether seed {seed} is refused", (told is None) == (error is None))
+    holds(f"whether seed {seed}, read, is refused", (told is None) == (error_of_file(file) is None))
     if told is None:
         comes_back(f"seed {seed}", file)
     elif isinstance(error, backfill_graph.GraphError) and told.split(" ")[1] == str(error.number):
@@ -163,6 +175,22 @@ def grouped(graph):
     one >> two >> backfill_graph.Task("three")
 
 
+def groups_in_a_row(graph):
+    """Of `load` one is a root and two leaves; edges lead to its roots and from its leaves."""
+    first, last = backfill_graph.Task("first"), backfill_graph.Task("last")
+    with graph.group("load") as load:
+        one, two = backfill_graph.Task("one"), backfill_graph.Task("two")
+        with graph.group("deep") as deep:
+            three = backfill_graph.Task("three")
+        one >> [two, deep]
+    first >> load >> last
+    with graph.group("publish") as publish:
+        backfill_graph.Task("x")
+        backfill_graph.Task("y")
+    publish << load
+    [publish, three] >> backfill_graph.Task("end")
+
+
 def ring(graph):
     tasks = [backfill_graph.Task(name) for name in "abc"]
     tasks[1] >> tasks[2] >> tasks[0]
@@ -204,6 +232,17 @@ task = backfill_graph.Task
 makes("tasks behind a list", {"first": ([], 1), "left": (["first"], 3), "right": (["first"], 1), "last": (["left", "right"], 1)}, fan)
 makes("tasks before a list", {"first": ([], 1), "left": (["first"], 1), "right": (["first"], 1), "last": (["left", "right", "first"], 1)}, turned)
 makes("groups", {"load.one": ([], 1), "load.deep.two": (["load.one"], 1), "three": (["load.deep.two"], 1)}, grouped)
+makes(
+    "groups beside the arrows",
+    {
+        **{"first": ([], 1), "last": (["load.two", "load.deep.three"], 1), "load.one": (["first"], 1)},
+        **{"load.two": (["load.one"], 1), "load.deep.three": (["load.one"], 1)},
+        **{"publish.x": (["load.two", "load.deep.three"], 1), "publish.y": (["load.two", "load.deep.three"], 1)},
+        **{"end": (["publish.x", "publish.y", "load.deep.three"], 1)},
+    },
+    groups_in_a_row,
+)
+fails("a group without tasks", "the group load has no tasks", None, lambda graph: task("a") >> graph.group("load"))
 fails("a cycle", "cycle: a b c", 7, ring)
 fails("a loop", "cycle: a", 7, lambda graph: task("a") >> graph.tasks["a"])
 fails("a pull from what may not have settled", "pull not settled: late", 14, pulls_early)
@@ -218,6 +257,65 @@ makes("a cycle that is refused, and what goes on", {"a": ([], 1), "b": (["a"], 1
 with contextlib.suppress(AttributeError):
     backfill_graph.context.ds
     holds("a context that isn't there", False)
+
+
+def is_told(name, wanted, write):
+    """What is written in a block ends with an error of these words."""
+    try:
+        with backfill_graph.Graph("d", schedule="@daily") as graph:
+            write(graph)
+    except (TypeError, backfill_graph.GraphError) as error:
+        holds(f"{name}: {error}", str(error) == wanted)
+    else:
+        holds(f"{name}, which is no error", False)
+
+
+is_told(
+    "a command that is one word",
+    'refused 2 shape: tasks[0].command: command is a list of words: ["true"] or ["sh", "-c", "true"]',
+    lambda graph: task("x", "true"),
+)
+is_told(
+    "a command of two words",
+    'refused 2 shape: tasks[0].command: command is a list of words: ["echo", "a b"] or ["sh", "-c", "echo \'a b\'"]',
+    lambda graph: task("x", "echo 'a b'"),
+)
+is_told("a rule by Airflow's name", "trigger_rule is called rule here", lambda graph: task("x", trigger_rule="all_done"))
+is_told("a command by Airflow's name", 'bash_command is the command here, as ["sh", "-c", "..."]', lambda graph: task("x", bash_command="true"))
+is_told("a name of nobody's", "Branch() got an unexpected keyword argument 'rules'", lambda graph: backfill_graph.Branch("x", rules=1))
+is_told(
+    "a schedule by Airflow's name",
+    "schedule_interval is called schedule here",
+    lambda graph: backfill_graph.Graph("d", schedule="@daily", schedule_interval="@daily"),
+)
+is_told("a task behind a text", "a task, a group or a list of them stands beside >> and <<, not 'b'", lambda graph: task("a") >> "b")
+
+
+def is_no_code(name, told, file):
+    """No text of a file becomes code: it is refused."""
+    path = FOLDER / "hostile.json"
+    path.write_text(file)
+    words = [sys.executable, ROOT / "python/backfill_graph.py"]
+    read = subprocess.run(words, stdin=path.open(), capture_output=True, check=False, text=True)
+    holds(f"{name}: {read.stderr}", (read.returncode, read.stdout, read.stderr) == (2, "", told + "\n"))
+
+
+HOSTILE = "logical_date,__import__('os').system('echo INJECTED >&2') or 'x'"
+FILE = '{"dag_id":"d","schedule":"@daily","tasks":[%s]}'
+is_no_code("a context that is code", "refused 2 shape: tasks[0].command", FILE % json.dumps({"id": "a", "command": [{"context": HOSTILE}]}))
+is_no_code("an id that is code", "refused 3 bad name: tasks[0].id", FILE % json.dumps({"id": "a=print(1)"}))
+is_no_code("a kind that is code", "refused 2 shape: tasks[0].kind", FILE % json.dumps({"id": "a", "kind": "print"}))
+is_no_code("a number that is none", "refused 1 not json", FILE % '{"id":"a","retries":NaN}')
+is_no_code("a list in place of a graph", "refused 2 shape: top", "[]")
+is_no_code("a task without an id", "refused 2 shape: tasks[0].id", FILE % "{}")
+is_no_code("no JSON", "refused 1 not json", "[" * 100000)
+names = ["__debug__", "None", "class", "print", "graph", "Group", "_", "9", "a.b", "a-b"]
+comes_back("ids that are words of Python", {"dag_id": "d", "schedule": "@daily", "tasks": [{"id": name} for name in names]})
+for zone in [*intervals.RULES, *intervals.BAD_ZONES, "UTC", "+01:00", "-23:59"]:
+    file = {"dag_id": "d", "schedule": "@daily", "zone": zone, "tasks": []}
+    is_bad = zone in intervals.BAD_ZONES
+    holds(f"the zone {zone} of check", told_by_check(file) == ("refused 13 bad zone" if is_bad else None))
+    holds(f"the zone {zone} in Python", (getattr(error_of(file), "number", None) == 13) == is_bad)
 try:
     task("a")
     holds("a task of no graph", False)

@@ -26,9 +26,16 @@ is_same 'the version' "$(< "$root/VERSION")" "$(sed -n 's/^version = "\(.*\)"$/\
 
 # The program of the first lines of its page, which stands in the guide too.
 sed -n '/^    from backfill_graph import/,/^    print/s/^ \{0,4\}//p' "$root/python/backfill_graph.py" > "$work/shops.py"
-is_same 'the program in the guide' "$(< "$work/shops.py")" "$(sed -n '/^from backfill_graph import/,/^print/p' "$root/docs/GUIDE.md")"
+# The program of this number that the guide shows.
+program_of_guide() {
+    awk -v wanted="$1" '/^from backfill_graph import/ { inside = ++programs == wanted } inside; /^print/ { inside = 0 }' "$root/docs/GUIDE.md"
+}
+is_same 'the program in the guide' "$(< "$work/shops.py")" "$(program_of_guide 1)"
 python3 "$work/shops.py" > "$work/shops.json"
 is_same 'the graph of the guide' 'ok 3 tasks, 2 edges' "$("$program" check "$work/shops.json")"
+program_of_guide 2 > "$work/sales.py"
+python3 "$work/sales.py" > "$work/sales.json"
+is_same 'the graph of branch, group and defaults' 'ok 4 tasks, 4 edges' "$("$program" check "$work/sales.json")"
 python3 "$root/python/backfill_graph.py" < "$work/shops.json" > "$work/again.py"
 is_same 'the graph, written in Python again' "$(< "$work/shops.json")" "$(python3 "$work/again.py")"
 
@@ -52,8 +59,22 @@ else
     skips 'that they can be installed, since there is no pip with setuptools and wheel'
 fi
 
-# A reader that has enough, and what can't be read or written.
+# What `show` refuses is refused in its words, also where a database is wanted; a good report is printed under any locale.
 rows_of=$root/python/backfill_report.py
+for line in "a -1 success 1 $(printf '[%.0s' {1..30000})" 'a 99999999999999999999 success 1 -' 'a -1 success 99999999999999999999 -' 'a -1 success 1 "\ud800"' \
+    'a -1 success 1 NaN' 'a -1 running 1 -' $'a -1 success 1 "\xff"'; do
+    printf '%s\n' '@backfill 2 d' '@run 2024-01-01T00:00:00Z 2024-01-02T00:00:00Z success' "$line" '@end 1' > "$work/bad"
+    "$program" show --json "$work/bad" > /dev/null 2> "$work/wanted" || true
+    for words in '' "--sqlite $work/bad.db"; do
+        status=0
+        python3 "$rows_of" "$work/bad" $words > "$work/out" 2> "$work/said" || status=$?
+        is_same "${line:0:40} $words" '2 refused 30 bad line: 3 refused 30 bad line: 3' "$status $(< "$work/said") $(< "$work/wanted")"
+    done
+done
+printf '%s\n' '@backfill 2 d' '@run 2024-01-01T00:00:00Z 2024-01-02T00:00:00Z success' 'a -1 success 1 "é"' 'b -1 skipped 1 -' '@end 1' > "$work/good"
+is_same 'the rows under an ASCII locale' "$("$program" show --json "$work/good")" "$(LC_ALL=C PYTHONUTF8=0 PYTHONIOENCODING=ascii python3 "$rows_of" "$work/good")"
+
+# A reader that has enough, and what can't be read or written.
 {
     printf '%s\n' '@backfill 2 d' '@run 2024-01-01T00:00:00Z 2024-01-02T00:00:00Z success'
     printf 't%d -1 success 1 -\n' {1..2000}
