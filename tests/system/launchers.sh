@@ -38,13 +38,13 @@ m 1 success 2 -
 @item 2
 LINES
     )
-    (cd "$work/logs$workers" && grep -r . d | LC_ALL=C sort) > "$work/kept"
+    (cd "$work/logs$workers" && grep -r . dag=d | LC_ALL=C sort) > "$work/kept"
     has "$work/kept" <<'LINES'
-d/2024-01-01T00:00:00Z/m/index=0,try=1.err:try 1 of 1
-d/2024-01-01T00:00:00Z/m/index=0,try=2.err:try 2 of 1
-d/2024-01-01T00:00:00Z/m/index=1,try=1.err:try 1 of 2
-d/2024-01-01T00:00:00Z/m/index=1,try=2.err:try 2 of 2
-d/2024-01-01T00:00:00Z/src/index=-1,try=1.err:looked
+dag=d/run=2024-01-01T00:00:00Z/task=m/index=0,try=1.err:try 1 of 1
+dag=d/run=2024-01-01T00:00:00Z/task=m/index=0,try=2.err:try 2 of 1
+dag=d/run=2024-01-01T00:00:00Z/task=m/index=1,try=1.err:try 1 of 2
+dag=d/run=2024-01-01T00:00:00Z/task=m/index=1,try=2.err:try 2 of 2
+dag=d/run=2024-01-01T00:00:00Z/task=src/index=-1,try=1.err:looked
 LINES
 done
 
@@ -79,6 +79,34 @@ for _ in {1..100}; do
 done
 row 'its program runs on' has_ended "$try"
 
+# It is ended with all that it has started where the runner ends first, by a signal or killed; and it has a time limit beside.
+
+for signal in TERM KILL; do
+    tasks "{\"id\":\"a\",\"command\":[\"sh\",\"-c\",\"sleep 60 & echo \$\$ \$! > $work/began; wait\"]}"
+    "$program" run "$graph" "${day[@]}" --launcher "$launchers/end-with-the-runner" > /dev/null 2>&1 &
+    runner=$!
+    read -r try below < "$work/began"
+    row "its program does not run, before SIG$signal" kill -0 "$try"
+    kill -s "$signal" "$runner"
+    wait "$runner" 2> /dev/null || true
+    for process in "$try" "$below"; do
+        for _ in {1..100}; do
+            ! has_ended "$process" || break
+            sleep 0.1
+        done
+        row "a process runs on behind SIG$signal" has_ended "$process"
+    done
+done
+tasks '{"id":"hangs","command":["sleep","60"]},{"id":"ends","command":["sh","-c","echo two words; exit 0"]},{"id":"fails","command":["sh","-c","exit 3"]}'
+SECONDS=0
+BACKFILL_SECONDS=1 answers 1 run "$graph" "${day[@]}" --workers 3 --launcher "$launchers/end-with-the-runner" < <(one_day failed <<'LINES'
+hangs -1 failed 1 -
+ends -1 success 1 "two words"
+fails -1 failed 1 -
+LINES
+)
+row 'a program that hangs was not ended' test "$SECONDS" -lt 30
+
 # What succeeded is remembered by task, date, index and words: of two days one is made again, since its try failed, and a task that is
 # given something else.
 
@@ -105,5 +133,27 @@ touch "$work/mended"
 remembered <<< '2 2024-01-02T00:00:00Z'
 row 'a run failed' test "$(grep -c 'Z success$' "$work/out")" = 2
 remembered < /dev/null
+
+# Nothing is left of a try that fails or is skipped.
+
+tasks '{"id":"a","command":["sh","-c","echo half; exit 3"]},{"id":"b","command":["sh","-c","echo half; exit 99"]}'
+BACKFILL_DONE=$work/undone answers 1 run "$graph" "${day[@]}" --launcher "$launchers/remember" < <(one_day failed <<< $'a -1 failed 1 -\nb -1 skipped 1 -')
+row 'a file is left of what did not succeed' test -z "$(find "$work/done" -name '*.new*'; find "$work/undone" -type f)"
+
+# Ids that are names of folders stay inside.
+
+for id in . ..; do
+    mkdir "$work/in"
+    tasks "{\"id\":\"$id\",\"command\":[\"sh\",\"-c\",\"echo looked >&2; echo 7\"]}"
+    sed -i "s/\"dag_id\":\"d\"/\"dag_id\":\"$id\"/" "$graph"
+    BACKFILL_LOGS=$work/in/logs "$program" run "$graph" "${day[@]}" --launcher "$launchers/keep-logs" > /dev/null
+    BACKFILL_DONE=$work/in/done "$program" run "$graph" "${day[@]}" --launcher "$launchers/remember" > /dev/null 2>&1
+    (cd "$work/in" && find . -type f | sed 's/-1-[0-9a-f]*$/-1-SUM/' | LC_ALL=C sort) > "$work/kept"
+    has "$work/kept" <<LINES
+./done/dag=$id/task=$id/run=2024-01-01T00:00:00Z/-1-SUM
+./logs/dag=$id/run=2024-01-01T00:00:00Z/task=$id/index=-1,try=1.err
+LINES
+    rm -r "$work/in"
+done
 
 sum
