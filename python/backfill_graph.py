@@ -21,11 +21,12 @@ from __future__ import annotations
 import datetime
 import json
 import keyword
+import math
 import re
 import shlex
 import sys
 from types import TracebackType
-from typing import Any, Callable, Dict, Iterator, List, Mapping, NoReturn, Optional, Sequence, Set, TextIO, Tuple, Type, TypeVar, Union
+from typing import Any, BinaryIO, Callable, Dict, Iterator, List, Mapping, NoReturn, Optional, Sequence, Set, Tuple, Type, TypeVar, Union
 
 __all__ = ["Branch", "Graph", "GraphError", "Group", "Task", "Word", "context", "item", "pull"]
 
@@ -39,6 +40,8 @@ WEIGHT_RULES = ("downstream", "upstream", "absolute")
 CONTEXTS = ("logical_date", "data_interval_start", "data_interval_end", "dag_id", "task_id", "map_index", "try_number")
 
 MOST_BYTES = 8_388_608
+# How many lists and objects may stand in one another.
+DEEPEST = 127
 MOST_TASKS = 2_000
 MOST_EDGES = 20_000
 MOST_WORDS = 64
@@ -805,19 +808,44 @@ def _refuse_constant(text: str) -> NoReturn:
     raise ValueError(text)
 
 
-def main(graph_file: TextIO) -> int:
+def _fraction(text: str) -> float:
+    number = float(text)
+    return number if math.isfinite(number) else _refuse_constant(text)
+
+
+def _number(text: str) -> Union[int, float]:
+    """A whole number of 64 bits; any other has a fraction for `serde_json`, as -0 has."""
+    number = _fraction(text)
+    return int(text) if text != "-0" and -(2**63) <= int(text) < 2**63 else number
+
+
+def _depth(value: Any) -> int:
+    """How many lists and objects stand in one another."""
+    if not isinstance(value, (list, dict)):
+        return 0
+    return 1 + max(map(_depth, value.values() if isinstance(value, dict) else value), default=0)
+
+
+def _read(text: bytes) -> Any:
+    """A file as `serde_json` reads it. Raises a ValueError, or a RecursionError, for what is no JSON."""
+    file = json.loads(text.decode(), parse_constant=_refuse_constant, parse_float=_fraction, parse_int=_number)
+    if _depth(file) > DEEPEST:
+        raise ValueError(DEEPEST)
+    return file
+
+
+def main(graph_file: BinaryIO) -> int:
     try:
-        file = json.load(graph_file, parse_constant=_refuse_constant)
-        lines = list(python_of(file))
+        lines = list(python_of(_read(graph_file.read())))
     except GraphError as error:
         print(f"refused {error.number} {error.words}", file=sys.stderr)
         return 2
     except (ValueError, RecursionError):
         print("refused 1 not json", file=sys.stderr)
         return 2
-    print("\n".join(lines))
+    sys.stdout.buffer.write("".join(f"{line}\n" for line in lines).encode())
     return 0
 
 
 if __name__ == "__main__":
-    sys.exit(main(sys.stdin))
+    sys.exit(main(sys.stdin.buffer))

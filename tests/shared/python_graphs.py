@@ -309,6 +309,11 @@ is_no_code("a number that is none", "refused 1 not json", FILE % '{"id":"a","ret
 is_no_code("a list in place of a graph", "refused 2 shape: top", "[]")
 is_no_code("a task without an id", "refused 2 shape: tasks[0].id", FILE % "{}")
 is_no_code("no JSON", "refused 1 not json", "[" * 100000)
+is_no_code("127 lists and objects in one another", "refused 2 shape: tasks[0].command", FILE % ('{"id":"a","command":%s}' % ("[" * 124 + "]" * 124)))
+is_no_code("128 lists and objects in one another", "refused 1 not json", FILE % ('{"id":"a","command":%s}' % ("[" * 125 + "]" * 125)))
+is_no_code("a number that has no end", "refused 1 not json", FILE % '{"id":"a","retries":1e400}')
+is_no_code("a number of 65 bits", "refused 2 shape: tasks[0].retries", FILE % '{"id":"a","retries":18446744073709551616}')
+is_no_code("a zero with a sign", "refused 2 shape: tasks[0].retries", FILE % '{"id":"a","retries":-0}')
 names = ["__debug__", "None", "class", "print", "graph", "Group", "_", "9", "a.b", "a-b"]
 comes_back("ids that are words of Python", {"dag_id": "d", "schedule": "@daily", "tasks": [{"id": name} for name in names]})
 for zone in [*intervals.RULES, *intervals.BAD_ZONES, "UTC", "+01:00", "-23:59"]:

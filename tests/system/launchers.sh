@@ -48,16 +48,19 @@ dag=d/run=2024-01-01T00:00:00Z/task=src/index=-1,try=1.err:looked
 LINES
 done
 
-# A program that hangs is ended, and its try failed; another goes on.
+# A program that hangs is ended, and its try failed; others go on.
 
-tasks '{"id":"hangs","command":["sleep","60"]},{"id":"ends","command":["echo","1"]}'
-SECONDS=0
-BACKFILL_SECONDS=1 answers 1 run "$graph" "${day[@]}" --workers 2 --launcher "$launchers/end-what-hangs" < <(one_day failed <<'LINES'
+tasks '{"id":"hangs","command":["sleep","60"]},{"id":"ends","command":["sh","-c","echo two words; exit 0"]},{"id":"fails","command":["sh","-c","exit 3"]}'
+for launcher in end-what-hangs end-with-the-runner; do
+    SECONDS=0
+    BACKFILL_SECONDS=1 answers 1 run "$graph" "${day[@]}" --workers 3 --launcher "$launchers/$launcher" < <(one_day failed <<'LINES'
 hangs -1 failed 1 -
-ends -1 success 1 1
+ends -1 success 1 "two words"
+fails -1 failed 1 -
 LINES
-)
-row 'a program that hangs was not ended' test "$SECONDS" -lt 30
+    )
+    row "$launcher: a program that hangs was not ended" test "$SECONDS" -lt 30
+done
 
 # A program is killed where the runner is.
 
@@ -79,7 +82,7 @@ for _ in {1..100}; do
 done
 row 'its program runs on' has_ended "$try"
 
-# It is ended with all that it has started where the runner ends first, by a signal or killed; and it has a time limit beside.
+# It is ended with all that it has started where the runner ends first, by a signal or killed.
 
 for signal in TERM KILL; do
     tasks "{\"id\":\"a\",\"command\":[\"sh\",\"-c\",\"sleep 60 & echo \$\$ \$! > $work/began; wait\"]}"
@@ -97,15 +100,6 @@ for signal in TERM KILL; do
         row "a process runs on behind SIG$signal" has_ended "$process"
     done
 done
-tasks '{"id":"hangs","command":["sleep","60"]},{"id":"ends","command":["sh","-c","echo two words; exit 0"]},{"id":"fails","command":["sh","-c","exit 3"]}'
-SECONDS=0
-BACKFILL_SECONDS=1 answers 1 run "$graph" "${day[@]}" --workers 3 --launcher "$launchers/end-with-the-runner" < <(one_day failed <<'LINES'
-hangs -1 failed 1 -
-ends -1 success 1 "two words"
-fails -1 failed 1 -
-LINES
-)
-row 'a program that hangs was not ended' test "$SECONDS" -lt 30
 
 # What succeeded is remembered by task, date, index and words: of two days one is made again, since its try failed, and a task that is
 # given something else.

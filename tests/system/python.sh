@@ -59,6 +59,11 @@ else
     skips 'that they can be installed, since there is no pip with setuptools and wheel'
 fi
 
+# A program is written in UTF-8, whatever the locale is.
+printf '%s' '{"dag_id":"d","schedule":"@daily","tasks":[{"id":"a","command":["é"]}]}' > "$work/accent.json"
+LC_ALL=C PYTHONUTF8=0 PYTHONCOERCECLOCALE=0 PYTHONIOENCODING=ascii python3 "$root/python/backfill_graph.py" < "$work/accent.json" > "$work/accent.py" || true
+is_same 'a program under an ASCII locale' "$(python3 -m json.tool --sort-keys "$work/accent.json")" "$(python3 "$work/accent.py" | python3 -m json.tool --sort-keys)"
+
 # What `show` refuses is refused in its words, also where a database is wanted; a good report is printed under any locale.
 rows_of=$root/python/backfill_report.py
 for line in "a -1 success 1 $(printf '[%.0s' {1..30000})" 'a 99999999999999999999 success 1 -' 'a -1 success 99999999999999999999 -' 'a -1 success 1 "\ud800"' \
