@@ -4,7 +4,8 @@
    isn't refused: the program is killed before it, or behind it, but never behind a call for memory, a read or a look at the clock. Where
    SLOWLY_STARTED is a number, what the program starts waits so many seconds before it becomes another program; where STARTS_LATE is one, the
    program waits so many milliseconds before it starts another. Where CLOCK_RATE is a number, the program's monotonic clock runs so many
-   times as fast, from the first look at it on. */
+   times as fast, from the first look at it on. Where CLOCK_BACK is a number, its wall clock is set back by so many seconds, a second behind
+   the program's start. */
 #define _GNU_SOURCE
 #include <dlfcn.h>
 #include <errno.h>
@@ -22,6 +23,9 @@
 
 static long made;
 static __thread int is_last;
+static long long start;
+
+#define SECOND 1000000000LL
 
 /* Whether this is the program itself, and none that it has started. */
 static int is_program(void) {
@@ -177,21 +181,36 @@ int statx(int folder, const char *path, int flags, unsigned mask, struct statx *
     return status;
 }
 
-int clock_gettime(clockid_t clock, struct timespec *to) {
+static int look(clockid_t clock, struct timespec *to) {
     static int (*real)(clockid_t, struct timespec *);
+    if (!real) real = dlsym(RTLD_NEXT, "clock_gettime");
+    return real(clock, to);
+}
+
+static long long monotonic(void) {
+    struct timespec now;
+    look(CLOCK_MONOTONIC, &now);
+    return now.tv_sec * SECOND + now.tv_nsec;
+}
+
+__attribute__((constructor)) static void at_start(void) { start = monotonic(); }
+
+int clock_gettime(clockid_t clock, struct timespec *to) {
     static long long first;
     const char *rate = getenv("CLOCK_RATE");
+    const char *back = getenv("CLOCK_BACK");
     long long none = 0, now;
     int status;
-    if (!real) real = dlsym(RTLD_NEXT, "clock_gettime");
     if (is_refused("clock")) { errno = EINVAL; return -1; }
-    status = real(clock, to);
-    if (status != 0 || clock != CLOCK_MONOTONIC || !rate || !is_program()) return status;
-    now = to->tv_sec * 1000000000LL + to->tv_nsec;
+    status = look(clock, to);
+    if (status != 0 || !is_program()) return status;
+    if (clock == CLOCK_REALTIME && back && monotonic() - start >= SECOND) to->tv_sec -= atoll(back);
+    if (clock != CLOCK_MONOTONIC || !rate) return status;
+    now = to->tv_sec * SECOND + to->tv_nsec;
     __atomic_compare_exchange_n(&first, &none, now, 0, __ATOMIC_SEQ_CST, __ATOMIC_SEQ_CST);
     now = first + (now - first) * atoll(rate);
-    to->tv_sec = now / 1000000000LL;
-    to->tv_nsec = now % 1000000000LL;
+    to->tv_sec = now / SECOND;
+    to->tv_nsec = now % SECOND;
     return status;
 }
 

@@ -118,6 +118,28 @@ for workers in 1 2 8; do
     [[ ${#moments[@]} -eq 2 && $((moments[1] - moments[0])) -gt 1000 ]] || differs "tries at the milliseconds ${moments[*]}, by $workers workers"
 done
 
+# Delays go by a clock that nobody sets: in the meantime the wall clock is set back by an hour, by a day, or to before 1970.
+
+if command -v cc > /dev/null; then
+    cc -shared -fPIC -O1 -o "$work/refuse.so" "$root/tests/shared/refuse.c"
+    preloaded() {
+        env REFUSED_PROGRAM=backfill CALL_COUNT="$work/count" LD_PRELOAD="$work/refuse.so" "$@"
+    }
+    tasks '{"id":"a","retries":1,"retry_delay":2,"command":["test","2","-eq",{"context":"try_number"}]}'
+    for seconds in 3600 86400 4000000000; do
+        for workers in 1 8; do
+            began=$(date +%s%3N)
+            preloaded CLOCK_BACK="$seconds" timeout 20 "$program" run "$graph" "${day[@]}" --workers "$workers" > "$work/out" 2>&1 || true
+            lasted=$(($(date +%s%3N) - began))
+            is_same "a delay while the clock goes back by $seconds s, by $workers workers" "$(one_day success <<< 'a -1 success 2 -')" "$(< "$work/out")"
+            rows=$((rows + 1))
+            [[ $lasted -gt 1000 && $lasted -lt 6000 ]] || differs "a delay of 2 s took $lasted ms while the clock went back by $seconds s"
+        done
+    done
+else
+    skips 'delays while the clock is set back, for want of a C compiler'
+fi
+
 # Progress is told on standard error: the last line when all has ended, and others no more than once a second.
 
 tells_progress() {

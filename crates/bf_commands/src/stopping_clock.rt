@@ -36,14 +36,16 @@ pub(crate) struct StoppingClock<'a, C: Drop, S> {
 impl<'a, C: TimeSource + Drop, S: Stops> TimeSource for StoppingClock<'a, C, S> {
     ghost last = { λ clock. clock.told };
 
-    /// The inner clock's present moment; `i64::MAX` once no further try may begin, so that no delay is waited for.
+    /// The inner clock's present moment; `i64::MAX` once no further try may begin, so that no delay is waited for from
+    /// then on.
     fn now(&mut self) -> i64 {
         let now = self.clock.now();
-        self.told = if self.stops.has_stopped() {
+        let present = if self.stops.has_stopped() {
             i64::MAX
         } else {
             now
         };
+        self.told = self.told.max(present);
         self.told
     }
 

@@ -130,7 +130,7 @@ impl<'s, K: Service + Send + Sync + 's> Executor<'s, K> {
     }
 
     /// Waits for an answer, and gives it with the place of its lane, from 0. None only where `until`, in seconds since
-    /// 1970, is given and the clock last showed that moment or a later one.
+    /// the clock began, is given and the clock last showed that moment or a later one.
     fn gather<W: Wait, C: TimeSource>(
         &mut self,
         rt: &W,
@@ -148,9 +148,9 @@ impl<'s, K: Service + Send + Sync + 's> Executor<'s, K> {
         }
     }
 
-    /// Waits for an answer and ends its try; does nothing where `until`, in seconds since 1970, comes first. `Runner`
-    /// where the runner gave the try up, `Stranger` where it doesn't run or was given something else, `OutOfMemory` at
-    /// want of memory.
+    /// Waits for an answer and ends its try; does nothing where `until`, in seconds since the clock began, comes first.
+    /// `Runner` where the runner gave the try up, `Stranger` where it doesn't run or was given something else,
+    /// `OutOfMemory` at want of memory.
     #[tactic(auto, using(crate::proofs::Turning::gathered_in_step, bf_sched::proofs::Driving::same_driven, crate::proofs::Turning::halted_by, crate::proofs::Shown::still_shown))]
     fn wait_and_end_try<W: Wait, C: TimeSource, O: Observer>(
         &mut self,

@@ -130,8 +130,8 @@ impl<'s, K: Service + Send + Sync + 's> Lanes<'s, K> {
         unreachable!()
     }
 
-    /// Waits for an answer until `moment`, in seconds since 1970, and gives it with the place of its lane, from 0. None
-    /// only where the clock's last answer isn't before that moment.
+    /// Waits for an answer until `moment`, in seconds since the clock began, and gives it with the place of its lane,
+    /// from 0. None only where the clock's last answer isn't before that moment.
     pub fn gather_until<W: Wait, C: TimeSource>(
         &mut self,
         rt: &W,
