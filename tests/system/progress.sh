@@ -49,7 +49,7 @@ is_same 'what is told where all is to be quiet' '' "$(< err)"
 timed --workers 1
 is_same 'what is told unasked' '' "$(< err)"
 
-# ---- what runs longest is told each minute in which nothing comes
+# ---- what runs longest, or where nothing runs has waited longest, is told each minute in which nothing comes
 
 fast() {
     env REFUSED_PROGRAM=backfill CLOCK_RATE="$rate" CALL_COUNT="$work/count" LD_PRELOAD="$work/refuse.so" timeout 60 "$program" "$@" > out 2> err || true
@@ -74,6 +74,35 @@ if command -v cc > /dev/null; then
     fast run "$graph" "${day[@]}" --workers 1 --progress
     is_same 'the tries of an instance' "1 part $run index 0 try 1
 1 part $run index 0 try 2" "$(longest)"
+
+    # Where nothing runs, it is told which try has waited longest for its delay, and until when by the wall clock, in UTC: a minute by the fast
+    # clock is 2.4 s, so a delay that begins at 0 and is told of after 75 s, 3 s later, ends D - 72 s after the beginning.
+    waits_until() {
+        local began=$1 delay=$2 at=$3 second
+        rows=$((rows + 1))
+        for second in -6 -5 -4 -3 -2 -1 0 1 2 3; do
+            [[ $at != "$(date -u -d "@$((began + delay - 72 + second))" +%T)" ]] || return 0
+        done
+        differs "waits until ${at:-no time}, began at $(date -u -d "@$began" +%T)"
+        cat err
+    }
+    tasks '
+        {"id":"late","retries":1,"retry_delay":20000,"command":["sh","-c","sleep 0.2; exit 1"]},
+        {"id":"first","retries":2,"retry_delay":30000,"command":["false"]}'
+    began=$(date +%s)
+    env REFUSED_PROGRAM=backfill CLOCK_RATE="$rate" CALL_COUNT="$work/count" LD_PRELOAD="$work/refuse.so" \
+        timeout 7 "$program" run "$graph" "${day[@]}" --workers 8 --progress > out 2> err || true
+    is_same 'what has waited longest' "first $run try 2
+first $run try 2" "$(sed -nE 's/^waiting until [0-9]{2}:[0-9]{2}:[0-9]{2}: //p' err)"
+    waits_until "$began" 30000 "$(sed -nE 's/^waiting until ([^ ]*): .*/\1/p' err | head -n 1)"
+    is_same 'that nothing runs' '' "$(longest)"
+    tasks '
+        {"id":"waits","retries":1,"retry_delay":30000,"command":["false"]},
+        {"id":"runs","command":["sleep","3.3"]}'
+    env REFUSED_PROGRAM=backfill CLOCK_RATE="$rate" CALL_COUNT="$work/count" LD_PRELOAD="$work/refuse.so" \
+        timeout 5 "$program" run "$graph" "${day[@]}" --workers 8 --progress > out 2> err || true
+    is_same 'what runs is told before what waits' "1 runs $run try 1" "$(longest)"
+    is_same 'what waits beside it' '' "$(grep '^waiting until ' err || true)"
 else
     skips 'what runs longest, for want of a C compiler'
 fi

@@ -3,6 +3,7 @@ ghost use Rattle.std.specs.Prelude.{◌≡◌};
 ghost use Rattle.bf_progress.specs.inner.Due.{seconds_between_of};
 
 use crate::begun::Begun;
+use crate::delayed::Delayed;
 use std::time::Duration;
 
 /// What is to be shown.
@@ -13,6 +14,8 @@ pub(crate) enum Due {
     Counts,
     /// The running try that began first.
     Longest(Begun),
+    /// The try that has waited longest for its delay, where none runs.
+    Delayed(Delayed),
 }
 
 /// Gives the whole seconds from one moment to another; 0 where the other is earlier.

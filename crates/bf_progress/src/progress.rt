@@ -3,8 +3,9 @@
 use crate::begun::Begun;
 use crate::board::Board;
 use crate::counts::{Counts, line_of_counts, terminal_line_of_counts};
+use crate::delayed::Delayed;
 use crate::due::{Due, seconds_between};
-use crate::longest::longest_line;
+use crate::longest::{delayed_line, longest_line};
 use crate::screen::{Screen, tell_line};
 use bf_core::{Core, Event};
 use bf_failure::context_of;
@@ -19,6 +20,9 @@ use std::time::{Clock, Duration};
 
 /// How many seconds pass between two looks at what is due.
 const PAUSE: u64 = 1;
+
+/// How many seconds a day has.
+const DAY: u64 = 86_400;
 
 /// The progress of a backfill, noted by the thread that runs it and shown by another. Contracts don't say what is noted
 /// or shown.
@@ -101,6 +105,7 @@ impl<'a, RT: Screen + Wait + Clock> Progress<'a, RT> {
     /// the line of the counts.
     fn take_due(&self, now: Duration, keeps_line: bool) -> (Due, Counts) {
         let mut board = self.board.lock(self.rt);
+        board.forget_delays(now);
         let due = board.due(now, keeps_line);
         board.note_told(due, now);
         (due, board.counts)
@@ -117,6 +122,7 @@ impl<'a, RT: Screen + Wait + Clock> Progress<'a, RT> {
             )),
             (Due::Counts, counts) => self.show(line_of_counts(self.alloc, &counts)),
             (Due::Longest(begun), _) => self.tell_longest(&begun, now),
+            (Due::Delayed(delayed), _) => self.tell_delayed(&delayed, now),
         }
     }
 
@@ -135,5 +141,18 @@ impl<'a, RT: Screen + Wait + Clock> Progress<'a, RT> {
         };
         let seconds = seconds_between(begun.at, now);
         self.show(longest_line(self.alloc, seconds, &context));
+    }
+
+    /// Shows until when `delayed`, which at `now` has waited longest, waits, by the wall clock; does nothing where that
+    /// can't be read, or the plan has no such task or run.
+    fn tell_delayed(&self, delayed: &Delayed, now: Duration) {
+        let Some(context) = context_of(self.plan, self.runs, delayed.name) else {
+            return;
+        };
+        let Ok(present) = self.rt.since_1970() else {
+            return;
+        };
+        let until = present.saturating_add(delayed.until.saturating_sub(now));
+        self.show(delayed_line(self.alloc, until.as_secs() % DAY, &context));
     }
 }

@@ -6,6 +6,7 @@ use Rattle.std.specs.declared.time.Duration.{Duration}
 use Rattle.bf_value.specs.declared.name.JobName.{JobName}
 use Rattle.bf_core.specs.declared.event.Event.{Event}
 use Rattle.bf_progress.specs.declared.begun.Begun.{Begun}
+use Rattle.bf_progress.specs.declared.delayed.Delayed.{Delayed}
 use Rattle.bf_progress.specs.declared.board.Board.{Board}
 use Rattle.bf_progress.specs.declared.due.Due.{Due}
 
@@ -49,19 +50,24 @@ abbrev pub counts_due : Bool → Due
 counts_due true = Due.Counts
 counts_due false = Due.Nothing
 
--- behind a minute without an event the try that began first of those that run, and else the counts, where their line is due
-abbrev pub due_at : Bool → Bool → List Begun → Due
-due_at minute_over line_due [] = counts_due line_due
-due_at true line_due (first ∷ rest) = Due.Longest first
-due_at false line_due (first ∷ rest) = counts_due line_due
+-- behind a minute without an event the try that began first of those that run or, where none runs, the one that has waited longest of
+-- those that wait for their delay; and else the counts, where their line is due
+abbrev pub due_at : Bool → Bool → List Begun → List Delayed → Due
+due_at false line_due running waiting = counts_due line_due
+due_at true line_due (first ∷ rest) waiting = Due.Longest first
+due_at true line_due [] (first ∷ rest) = Due.Delayed first
+due_at true line_due [] [] = counts_due line_due
 
 abbrev pub due_of : Board → Duration → Bool → Due
 due_of board now keeps_line =
     due_at (is_minute_over_in board now) (is_line_due_in board now keeps_line) board.running.items
+    board.delayed.items
 
 -- what was due is told
 abbrev pub shown_of : Board → Due → Duration → Board
 shown_of board Due.Nothing now = board
 shown_of board Due.Counts now = record board { has_changed = false; shown = now }
 shown_of board (Due.Longest begun) now =
+    record board { minutes = seconds_between_of board.changed now / 60 }
+shown_of board (Due.Delayed delayed) now =
     record board { minutes = seconds_between_of board.changed now / 60 }
