@@ -195,8 +195,10 @@ else
     skips 'a disk that logs fill, since none can be mounted'
 fi
 
-# ---- the environment of a try
+# ---- the environment of a try: it has nothing of a try that started the runner
 
+export BACKFILL_{DAG_ID,TASK_ID,RUN,DATE,DATE_NODASH,INTERVAL_START,INTERVAL_END,MAP_INDEX,TRY_NUMBER,GIVEN}=outer
+export AIRFLOW_CTX_{DAG_ID,TASK_ID,EXECUTION_DATE,TRY_NUMBER}=outer
 cat > environment <<'LAUNCHER'
 #!/bin/sh
 env | grep -E '^(BACKFILL|AIRFLOW_CTX)_' | LC_ALL=C sort > "environment of $BACKFILL_TASK_ID $BACKFILL_MAP_INDEX"
@@ -209,7 +211,7 @@ echo '{"dag_id":"shops","schedule":"0 3 * * *","zone":"+05:30","tasks":[
 variables() {
     cat <<VARIABLES
 AIRFLOW_CTX_DAG_ID=shops
-AIRFLOW_CTX_EXECUTION_DATE=2024-01-01T21:30:00Z
+AIRFLOW_CTX_EXECUTION_DATE=2024-01-01T21:30:00+00:00
 AIRFLOW_CTX_TASK_ID=$1
 AIRFLOW_CTX_TRY_NUMBER=$3
 BACKFILL_DAG_ID=shops

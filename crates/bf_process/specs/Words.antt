@@ -14,18 +14,18 @@ use Rattle.bf_failure.specs.Tried.{IsContext, log_of}
 use Rattle.bf_process.specs.declared.launching.Launching.{Launching}
 use Rattle.bf_process.specs.declared.setting.Setting.{Setting}
 use Rattle.bf_process.specs.Clocks.{clock_of}
-use Rattle.bf_process.specs.Environment.{environment_of}
+use Rattle.bf_process.specs.Environment.{Pair, environment_of}
 use Rattle.bf_process.specs.Output.{not_started_raw_of}
 
 -- ---- what is started
 
--- a program that is started: its words, of which the first names it, and the variables that are added to the environment of this process
+-- a program that is started: its words, of which the first names it, and the variables that are set and removed in the environment of this process
 pub record Launched : Type 0 where
   pub words : List (List ℕ)
-  pub variables : List (List ℕ × List ℕ)
+  pub variables : List Pair
 
--- the variables that are added in a setting
-abbrev pub variables_in : Setting → List (List ℕ × List ℕ)
+-- the variables that are set and removed in a setting
+abbrev pub variables_in : Setting → List Pair
 variables_in setting =
     environment_of setting.context.now setting.clock.now.at.nanosecond
     (option_map (λ logs. string_bytes logs.now.given) setting.logs)

@@ -5,6 +5,7 @@ ghost use Rattle.jiff.specs.Words.{plain_zone};
 ghost use Rattle.bf_moment.specs.Moment.{date_text};
 ghost use Rattle.bf_interval.specs.Runs.{IsSecondTo2208};
 ghost use Rattle.bf_process.specs.Clocks.{clock_in, clock_of, date_digits};
+ghost use Rattle.bf_process.specs.Environment.{airflow_text};
 
 use bf_interval::Runs;
 use bf_moment::{Moment, moment_bytes};
@@ -86,4 +87,14 @@ pub(crate) fn digits_of_date(alloc: Global, clock: &Moment) -> Result<String, Ou
 {
     let [y, e, a, r, _, m, o, _, d, i, ..] = moment_bytes(clock.at);
     text_of_ascii(alloc, &[y, e, a, r, m, o, d, i])
+}
+
+/// Spells a moment as Airflow does, as `2024-03-04T06:05:09+00:00`.
+#[tactic(auto, unfolding(bf_moment::specs::Moment::moment_text))]
+pub(crate) fn text_for_airflow(alloc: Global, moment: &Moment) -> Result<String, OutOfMemory>
+    ensures { IfOk result (λ text. string_bytes text ≡ airflow_text moment.now.at.nanosecond) }
+{
+    let bytes = moment_bytes(moment.at);
+    let text = text_of_ascii(alloc, &bytes[..19])?;
+    Ok(format!(in alloc; "{text}+00:00")?)
 }

@@ -2,7 +2,8 @@
 //!
 //! - **A program** is the words of a try's command, started by `ProcessRunner` in the thread that calls it, without a shell;
 //!   behind a launcher, where there is one. A command without words starts nothing and answers code 0 with an empty line.
-//! - **Its environment** is this process's with the variables of its try, which `Variable` lists. Its standard input is empty.
+//! - **Its environment** is this process's with the variables of its try, which `Variable` lists, and none of another try's. Its
+//!   standard input is empty.
 //! - **Its output** is read by `line_of`, at most 1,048,576 bytes of it; then the pipe is closed, unless there are logs, for
 //!   which it is read to the end. The program is waited for, want of memory or not. What it has started may hold its output open: the try ends when the last of them closes it.
 //! - **Its logs**, where there is a folder for them, are all that it writes to its standard output and its standard error, and

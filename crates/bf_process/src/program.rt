@@ -44,10 +44,20 @@ pub(crate) fn not_started_raw(alloc: Global) -> Raw
 /// Adds a variable to a command's environment, in place of any of that name.
 fn add_variable(command: &mut Command, name: &str, value: &str) -> Result<(), OutOfMemory>
     ensures variable { OnOk result
-        (IsSaidAfter command.old command.new ((name.now, value.now) ∷ [])) }
+        (IsSaidAfter command.old command.new ((name.now, Some value.now) ∷ [])) }
     ensures same { OnOk result (IsSameElse command.old command.new) }
 {
     command.env(name, value)?;
+    Ok(())
+}
+
+/// Removes the variable of this name, which this process may have, from a command's environment.
+fn remove_variable(command: &mut Command, name: &str) -> Result<(), OutOfMemory>
+    requires { clears_env command.old ≡ false }
+    ensures variable { OnOk result (IsSaidAfter command.old command.new ((name.now, None) ∷ [])) }
+    ensures same { OnOk result (IsSameElse command.old command.new) }
+{
+    command.env_remove(name)?;
     Ok(())
 }
 
@@ -70,12 +80,14 @@ fn add_common_variables(
     Ok(())
 }
 
-/// Adds the variables of a try to a command's environment, with `BACKFILL_GIVEN` where logs are kept.
+/// Adds the variables of a try to a command's environment, with `BACKFILL_GIVEN` where logs are kept; where they
+/// aren't, removes that one, which would name a file of another try.
 fn add_environment(
     alloc: Global,
     command: &mut Command,
     setting: &Setting<'_, '_>,
 ) -> Result<(), OutOfMemory>
+    requires { clears_env command.old ≡ false }
     ensures variables { OnOk result
         (IsSaidAfter command.old command.new (variables_in setting.now)) }
     ensures same { OnOk result (IsSameElse command.old command.new) }
@@ -83,12 +95,12 @@ fn add_environment(
     add_common_variables(alloc, command, setting.context, setting.clock)?;
     match setting.path_of_given() {
         Some(path) => add_variable(command, "BACKFILL_GIVEN", path),
-        None => Ok(()),
+        None => remove_variable(command, "BACKFILL_GIVEN"),
     }
 }
 
-/// Makes the command that starts a program with these arguments, in this process's folder and environment, to which the
-/// try's variables are added. Its standard input is empty, its standard output a pipe; its standard error goes to `err`, or to that of this process for None.
+/// Makes the command that starts a program with these arguments, in this process's folder and environment, in which the
+/// try's variables are set, and those of no other. Its standard input is empty, its standard output a pipe; its standard error goes to `err`, or to that of this process for None.
 fn command_of(
     alloc: Global,
     program: &str,

@@ -11,8 +11,8 @@ use bf_try::RunnerFault;
 use std::alloc::Global;
 
 /// Starts programs and hears them to their end. Its two relations, which it promises to keep, say what may come of a
-/// program that is started with these words, the first of which names it, and with variables added to this process's
-/// environment.
+/// program that is started with these words, the first of which names it, and with variables set and removed in this
+/// process's environment.
 pub trait Starter {
     ghost use Rattle.bf_try.specs.declared.answers.Raw.{Raw};
     ghost use Rattle.bf_process.specs.Words.{Launched};
@@ -23,7 +23,7 @@ pub trait Starter {
     /// A program that is to be started so may be lost: its logs can't be made, or it can't be waited for.
     ghost may_lose: { Self → Launched → Type 0 };
 
-    /// Makes the try's logs, starts a program with the try's variables added to its environment, waits for its end and
+    /// Makes the try's logs, starts a program with the try's variables set in its environment, waits for its end and
     /// gives its answer. `GaveUp` where a log can't be made or the program can't be waited for, `OutOfMemory` at want
     /// of memory.
     fn start(

@@ -2,7 +2,7 @@
 ghost use Rattle.std.specs.Prelude.{◌≡◌, IfOk, string_bytes};
 ghost use Rattle.bf_process.specs.Environment.{variable_name, variable_value, variables_of};
 
-use crate::clocks::{digits_of_date, text_of_date};
+use crate::clocks::{digits_of_date, text_for_airflow, text_of_date};
 use bf_moment::Moment;
 use bf_value::OutOfMemory;
 use bf_words::JobContext;
@@ -77,8 +77,9 @@ impl Variable {
         }
     }
 
-    /// Gives the variable's value for a try, moments as `2024-02-14T00:00:00Z`. `clock` is what the clocks of the
-    /// graph's zone show at the start of the try's run, from which the dates come.
+    /// Gives the variable's value for a try, moments as `2024-02-14T00:00:00Z`, or as Airflow spells them where the
+    /// variable is Airflow's. `clock` is what the clocks of the graph's zone show at the start of the try's run, from
+    /// which the dates come.
     pub(crate) fn value(
         self,
         alloc: Global,
@@ -93,8 +94,11 @@ impl Variable {
             Variable::TaskId | Variable::AirflowTaskId => {
                 String::from_str(alloc, context.task_id)?
             }
-            Variable::Run | Variable::IntervalStart | Variable::AirflowExecutionDate => {
+            Variable::Run | Variable::IntervalStart => {
                 context.data_interval_start.to_string(alloc)?
+            }
+            Variable::AirflowExecutionDate => {
+                text_for_airflow(alloc, &context.data_interval_start)?
             }
             Variable::Date => text_of_date(alloc, clock)?,
             Variable::DateNodash => digits_of_date(alloc, clock)?,

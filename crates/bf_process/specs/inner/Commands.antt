@@ -3,10 +3,11 @@ use Rattle.std.specs.Prelude.{◌≡◌, ℕ, List}
 use Rattle.std.specs.Global.{Global}
 use Rattle.std.specs.Process.{clears_env, command_var, SameDir, SameProgramAndArgs}
 use Rattle.std.specs.declared.process.command.Command.{Command}
+use Rattle.bf_process.specs.Environment.{Pair}
 use Rattle.bf_process.specs.inner.Environment.{said_after}
 
--- the pairs were set in order
-abbrev pub IsSaidAfter : Command Global → Command Global → List (List ℕ × List ℕ) → Type 0
+-- the pairs were taken in order
+abbrev pub IsSaidAfter : Command Global → Command Global → List Pair → Type 0
 IsSaidAfter old new pairs =
     (name : List ℕ) → command_var new name ≡ said_after name (command_var old name) pairs
 
