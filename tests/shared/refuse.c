@@ -3,9 +3,10 @@
    of these is refused, from 1 on, or 0 for none, and CALL_COUNT the file that gets the count. Where KILLED is `before` or `after`, the call
    isn't refused: the program is killed before it, or behind it, but never behind a call for memory, a read or a look at the clock. Where
    SLOWLY_STARTED is a number, what the program starts waits so many seconds before it becomes another program; where STARTS_LATE is one, the
-   program waits so many milliseconds before it starts another. Where CLOCK_RATE is a number, the program's monotonic clock runs so many
-   times as fast, from the first look at it on. Where CLOCK_BACK is a number, its wall clock is set back by so many seconds, a second behind
-   the program's start. */
+   program waits so many milliseconds before it starts another. Where STARTS_REFUSED is a number, so many of its first starts are refused, by
+   the fault with the number START_FAULT. Where CLOCK_RATE is a number, the program's monotonic clock runs so many times as fast, from the
+   first look at it on. Where CLOCK_BACK is a number, its wall clock is set back by so many seconds, a second behind the program's start. Where
+   SLEEPS is a path, the program doesn't sleep, and for how many seconds it would stands in that file. */
 #define _GNU_SOURCE
 #include <dlfcn.h>
 #include <errno.h>
@@ -214,13 +215,27 @@ int clock_gettime(clockid_t clock, struct timespec *to) {
     return status;
 }
 
+int nanosleep(const struct timespec *asked, struct timespec *left) {
+    static int (*real)(const struct timespec *, struct timespec *);
+    const char *sleeps = getenv("SLEEPS");
+    FILE *file;
+    if (!real) real = dlsym(RTLD_NEXT, "nanosleep");
+    if (!sleeps || !is_program()) return real(asked, left);
+    file = fopen(sleeps, "a");
+    if (file) { fprintf(file, "%ld\n", (long)asked->tv_sec); fclose(file); }
+    return 0;
+}
+
 int posix_spawn(pid_t *child, const char *path, const posix_spawn_file_actions_t *actions, const posix_spawnattr_t *attributes,
                 char *const words[], char *const variables[]) {
     static int (*real)(pid_t *, const char *, const posix_spawn_file_actions_t *, const posix_spawnattr_t *, char *const[], char *const[]);
     const char *seconds = getenv("SLOWLY_STARTED");
     const char *milliseconds = getenv("STARTS_LATE");
+    const char *refused = getenv("STARTS_REFUSED");
+    static long starts;
     if (!real) real = dlsym(RTLD_NEXT, "posix_spawn");
     if (milliseconds && is_program()) usleep((useconds_t)atoi(milliseconds) * 1000);
+    if (refused && is_program() && __atomic_add_fetch(&starts, 1, __ATOMIC_SEQ_CST) <= atol(refused)) return atoi(getenv("START_FAULT"));
     if (!seconds || !is_program()) return real(child, path, actions, attributes, words, variables);
     *child = fork();
     if (*child == 0) {

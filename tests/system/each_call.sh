@@ -52,6 +52,12 @@ is_unstarted() {
     [[ $1 == open && $status -eq 1 ]] && grep -q 'try 1: not started: Permission denied, see ' "$work/err"
 }
 
+# Whether a program was started again for which memory was wanting, and nothing else has changed.
+is_started_again() {
+    [[ $1 == memory && $status -eq $whole ]] && cmp -s "$work/out" "$work/whole_out" &&
+        cmp -s <(grep -vx 'not started yet: .*: Cannot allocate memory' "$work/err") "$work/whole_err"
+}
+
 # Whether a log isn't whole, and nothing else has changed.
 is_log_lost() {
     [[ $status -eq $whole && $(< "$work/err") == 'logs: not all could be kept' ]] && cmp -s "$work/out" "$work/whole_out"
@@ -70,7 +76,7 @@ each() {
         rows=$((rows + 1))
         if is_fault "$call" || is_log_fault; then
             faults=$((faults + 1))
-        elif ! is_whole && ! is_untold "$call" && ! is_unstarted "$call" && ! is_log_lost; then
+        elif ! is_whole && ! is_untold "$call" && ! is_unstarted "$call" && ! is_started_again "$call" && ! is_log_lost; then
             differs "status $status, of $call $number of: $*"
             cat "$work/out" "$work/err"
         fi

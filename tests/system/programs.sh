@@ -140,6 +140,62 @@ else
     skips 'delays while the clock is set back, for want of a C compiler'
 fi
 
+# A program for which processes (11, EAGAIN) or memory (12, ENOMEM) are wanting is started again after 1, 2, 4, .. 60 s, up to ten times, and
+# that is told once. Its pauses aren't slept here, but written to `sleeps`.
+
+if command -v cc > /dev/null; then
+    starts() {
+        rm -f "$work/sleeps"
+        : > "$work/sleeps"
+        preloaded STARTS_REFUSED="$1" START_FAULT="$2" SLEEPS="$work/sleeps" timeout 60 "$program" run "$graph" "${day[@]}" "${@:3}" > "$work/out" 2> "$work/err" || true
+    }
+    told() {
+        grep -v '^runs ' "$work/err" || true
+    }
+    try='a 2024-01-01T00:00:00Z try 1'
+    pauses=(1 2 4 8 16 32 60 60 60 60)
+    tasks '{"id":"a","command":["echo","7"]}'
+    while read -r number words; do
+        for refused in 1 4 10; do
+            starts "$refused" "$number" --progress
+            is_same "what starts behind $refused refusals" "$(one_day success <<< 'a -1 success 1 7')" "$(< "$work/out")"
+            is_same "what is told of $refused refusals" "not started yet: $try: $words" "$(told)"
+            is_same "the pauses of $refused refusals" "${pauses[*]:0:refused}" "$(paste -sd ' ' "$work/sleeps")"
+        done
+        starts 11 "$number" --progress
+        is_same 'what never starts' "$(one_day failed <<< 'a -1 failed 1 -')" "$(< "$work/out")"
+        is_same 'what is told of what never starts' "not started yet: $try: $words
+failed: $try: not started: $words" "$(told)"
+        is_same 'its pauses' "${pauses[*]}" "$(paste -sd ' ' "$work/sleeps")"
+    done <<'FAULTS'
+11 Resource temporarily unavailable
+12 Cannot allocate memory
+FAULTS
+    starts 3 11
+    is_same 'what is told unasked' "$(one_day success <<< 'a -1 success 1 7')" "$(cat "$work/out" "$work/err")"
+    starts 2 11 --progress --logs "$work/kept"
+    is_same 'what is logged of a program that started later' '7 ' "$(cat "$work"/kept/dag=d/run=*/task=a/try=1.out) $(cat "$work"/kept/dag=d/run=*/task=a/try=1.err)"
+
+    # Any other fault counts at once.
+    starts 1 7 --progress
+    is_same 'what the system takes for too long' "failed: $try: not started: Argument list too long" "$(told)"
+    is_same 'its pauses' '' "$(< "$work/sleeps")"
+
+    # A pause is slept through, and ends with the program.
+    rows=$((rows + 1))
+    began=$(date +%s%3N)
+    preloaded STARTS_REFUSED=2 START_FAULT=11 "$program" run "$graph" "${day[@]}" > "$work/out"
+    lasted=$(($(date +%s%3N) - began))
+    [[ $lasted -ge 3000 && $lasted -lt 8000 ]] || differs "pauses of 1 and 2 s took $lasted ms"
+    for signal in TERM INT; do
+        status=0
+        preloaded STARTS_REFUSED=10 START_FAULT=11 timeout --signal "$signal" 1.5 "$program" run "$graph" "${day[@]}" > "$work/out" 2> "$work/err" || status=$?
+        is_same "a pause that is ended by SIG$signal" '124 ' "$status $(cat "$work/out" "$work/err")"
+    done
+else
+    skips 'programs that are started again, for want of a C compiler'
+fi
+
 # Progress is told on standard error: the last line when all has ended, and others no more than once a second.
 
 tells_progress() {

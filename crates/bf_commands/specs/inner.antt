@@ -3,3 +3,4 @@ pub mod OverTable
 pub mod Programs
 pub mod Cleared
 pub mod Journaled
+pub mod Restarting

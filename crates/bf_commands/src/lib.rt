@@ -19,6 +19,7 @@ mod programs;
 mod progress;
 mod recorded;
 mod reported;
+mod restarting;
 mod run;
 mod single;
 mod stop;

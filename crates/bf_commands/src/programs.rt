@@ -3,12 +3,14 @@ ghost use Rattle.std.specs.Prelude.{◌≡◌};
 ghost use Rattle.bf_process.specs.Words.{launching_of};
 
 use crate::crew::Crew;
+use crate::restarting::Restarting;
 use bf_failure::{Teller, Telling};
 use bf_interval::Runs;
 use bf_plan::Plan;
 use bf_process::{LogFaults, ProcessRunner, Starter};
 use bf_progress::{Screen, tell_line};
 use std::alloc::Global;
+use std::time::Clock;
 
 /// Shows on the screen each line that it is told.
 #[derive(Drop)]
@@ -29,26 +31,30 @@ impl<'m, RT: Screen> Teller for ScreenTeller<'m, RT> {
 /// Makes tries by starting programs, and tells those that fail where that is asked for.
 pub(crate) type Programs<'a, RT> = Telling<
     'a,
-    ProcessRunner<'a, 'a, 'a, 'a, RT>,
+    ProcessRunner<'a, 'a, 'a, Restarting<'a, RT>>,
     ScreenTeller<'a, RT>,
 >;
 
-/// Makes the runner that starts the programs of these runs' tasks, and tells failed tries on the screen where the crew
-/// does.
+/// Makes the runner that starts the programs of these runs' tasks, and tells on the screen, where the crew does, tries
+/// that fail and programs that are started again.
 #[tactic(auto, using(crate::proofs::Shown::anything))]
-pub(crate) fn programs_of<'a, RT: Starter + Screen>(
+pub(crate) fn programs_of<'a, RT: Starter + Screen + Clock>(
     crew: &Crew<'a, RT>,
     plan: &'a Plan,
     runs: &'a Runs,
 ) -> Programs<'a, RT>
     ensures { result.runner ≡ record {
-      starter = crew.now.rt.now;
+      starter = record { rt = crew.now.rt; tells = crew.now.tells.failures };
       dag = plan.entry.now.dag;
       intervals = runs.entry.now;
       launching = launching_of crew.now.launching;
     } }
 {
-    let runner = ProcessRunner::new(crew.rt, crew.alloc, plan, runs, crew.launching);
+    let starter = Restarting {
+        rt: crew.rt,
+        tells: crew.tells.failures,
+    };
+    let runner = ProcessRunner::new(starter, crew.alloc, plan, runs, crew.launching);
     let teller = if crew.tells.failures {
         Some(ScreenTeller {
             rt: crew.rt,

@@ -1,5 +1,5 @@
 //! What is heard of a program.
-ghost use Rattle.std.specs.Prelude.{◌≡◌, None};
+ghost use Rattle.std.specs.Prelude.{◌≡◌, None, false};
 
 use bf_failure::Detail;
 use bf_try::Raw;
@@ -9,6 +9,8 @@ use bf_try::Raw;
 pub struct Heard {
     pub raw: Raw,
     pub detail: Option<Detail>,
+    /// Whether processes or memory were wanting to start it, so that it may start later.
+    pub may_start_later: bool,
 }
 
 impl Heard {
@@ -16,7 +18,12 @@ impl Heard {
     pub(crate) fn without_detail(raw: Raw) -> Heard
         ensures raw { result.raw ≡ raw }
         ensures detail { result.detail ≡ None }
+        ensures later { result.may_start_later ≡ false }
     {
-        Heard { raw, detail: None }
+        Heard {
+            raw,
+            detail: None,
+            may_start_later: false,
+        }
     }
 }

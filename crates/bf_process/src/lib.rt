@@ -9,7 +9,7 @@
 //! - **Its logs**, where there is a folder for them, are all that it writes to its standard output and its standard error, and
 //!   what its try was given. They are made anew, and no link is followed. Without a folder its standard error is the runner's.
 //!
-//! Between the runner and the machine stands the trait `Starter`, whose one form is the machine. Its relations say what may
+//! Between the runner and the machine stands the trait `Starter`, whose form here is the machine. Its relations say what may
 //! be heard of the words that it is handed; so a runner's contract says which words are started for a try.
 #![tactic(auto)]
 

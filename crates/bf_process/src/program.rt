@@ -9,7 +9,8 @@ ghost use Rattle.bf_process.specs.inner.Environment.{said_after};
 ghost use Rattle.bf_process.specs.inner.Commands.{IsSaidAfter, IsSameElse};
 ghost use Rattle.bf_process.specs.Words.{variables_in};
 ghost use Rattle.bf_process.specs.Output.{IsLineOf, not_started_raw_of};
-ghost use Rattle.bf_process.specs.inner.Output.{exit_in};
+ghost use Rattle.bf_process.specs.inner.Output.{exit_in, is_want_of_room};
+ghost use Rattle.std.specs.IoError.{error_kind};
 
 use crate::heard::Heard;
 use crate::line::line_of;
@@ -237,12 +238,26 @@ fn heard_of<P: OpenProcess>(
     Ok(Heard {
         raw,
         detail: signal_of(status),
+        may_start_later: false,
     })
 }
 
-/// Starts a program for a try with these arguments, waits for its end and gives its answer, `NotStarted` where it
-/// couldn't be started. `GaveUp` where it can't be waited for, `OutOfMemory` at want of memory. No contract covers
-/// this.
+/// Gives what is heard of a program that the system didn't start by this fault: it may start later where processes or
+/// memory were wanting for it.
+fn not_started(alloc: Global, error: &io::Error) -> Heard
+    ensures raw { result.raw ≡ not_started_raw_of }
+    ensures later { result.may_start_later ≡ is_want_of_room (error_kind error.now) }
+{
+    Heard {
+        raw: not_started_raw(alloc),
+        detail: start_fault(alloc, error),
+        may_start_later: matches!(error.kind(), ErrorKind::WouldBlock | ErrorKind::OutOfMemory),
+    }
+}
+
+/// Starts a program for a try with these arguments, waits for its end and gives its answer, `NotStarted` where the
+/// system couldn't start it. `GaveUp` where it can't be waited for, `OutOfMemory` where this process wants memory. No
+/// contract covers this.
 pub(crate) fn run_program<P: Processes>(
     processes: &P,
     alloc: Global,
@@ -258,12 +273,9 @@ pub(crate) fn run_program<P: Processes>(
     let mut command = command_of(alloc, program, arguments, setting, err)?;
     match command.spawn(processes) {
         Ok(mut child) => heard_of(alloc, &mut child, out),
-        Err(error) => match error.kind() {
-            ErrorKind::OutOfMemory => Err(RunnerFault::OutOfMemory),
-            _ => Ok(Heard {
-                raw: not_started_raw(alloc),
-                detail: start_fault(alloc, &error),
-            }),
+        Err(error) => match (error.kind(), error.raw_os_error()) {
+            (ErrorKind::OutOfMemory, None) => Err(RunnerFault::OutOfMemory),
+            _ => Ok(not_started(alloc, &error)),
         },
     }
 }

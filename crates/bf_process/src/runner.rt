@@ -25,8 +25,8 @@ use std::marker::Model;
 /// Runs each try as a program: the one that its command names or, where there is one, the launcher, which gets the
 /// command's words as arguments. A try of a task or run that doesn't exist isn't started.
 #[derive(Drop)]
-pub struct ProcessRunner<'s, 'p, 'i, 'l, S> {
-    starter: &'s S,
+pub struct ProcessRunner<'p, 'i, 'l, S: Drop> {
+    starter: S,
     alloc: Global,
     plan: &'p Plan,
     runs: &'i Runs,
@@ -34,7 +34,7 @@ pub struct ProcessRunner<'s, 'p, 'i, 'l, S> {
     log_faults: LogFaults,
 }
 
-impl<'s, 'p, 'i, 'l, S> Model for ProcessRunner<'s, 'p, 'i, 'l, S> {
+impl<'p, 'i, 'l, S: Drop> Model for ProcessRunner<'p, 'i, 'l, S> {
     ghost use Rattle.std.specs.Coded.{codes};
     ghost use Rattle.bf_plan.specs.contracts.plan.Dag;
     ghost use Rattle.bf_interval.specs.contracts.interval.Interval;
@@ -45,25 +45,25 @@ impl<'s, 'p, 'i, 'l, S> Model for ProcessRunner<'s, 'p, 'i, 'l, S> {
     ghost coded = { Prim.hlevel (codes, Dag.the_row.coded, Interval.the_row.coded) };
 
     ghost view = { λ r. record {
-      starter = r.starter.now;
+      starter = r.starter;
       dag = r.plan.now.dag;
       intervals = r.runs.now;
       launching = launching_of r.launching;
     } };
 }
 
-impl<'s, 'p, 'i, 'l, S: Starter> ProcessRunner<'s, 'p, 'i, 'l, S> {
-    /// Makes a runner of the plan's tasks in these runs, with the launcher and the logs of `launching`. It takes no
-    /// memory before it runs a try.
+impl<'p, 'i, 'l, S: Starter + Drop> ProcessRunner<'p, 'i, 'l, S> {
+    /// Makes a runner of the plan's tasks in these runs, with the launcher and the logs of `launching`, which starts
+    /// programs by `starter`. It takes no memory before it runs a try.
     pub fn new(
-        starter: &'s S,
+        starter: S,
         alloc: Global,
         plan: &'p Plan,
         runs: &'i Runs,
         launching: Launching<'l>,
-    ) -> ProcessRunner<'s, 'p, 'i, 'l, S>
+    ) -> ProcessRunner<'p, 'i, 'l, S>
         ensures { result ≡ record {
-          starter = starter.now;
+          starter = starter;
           dag = plan.now.dag;
           intervals = runs.now;
           launching = launching_of launching.entry;
@@ -181,7 +181,7 @@ impl<'s, 'p, 'i, 'l, S: Starter> ProcessRunner<'s, 'p, 'i, 'l, S> {
     }
 }
 
-impl<'s, 'p, 'i, 'l, S: Starter> TaskRunner for ProcessRunner<'s, 'p, 'i, 'l, S> {
+impl<'p, 'i, 'l, S: Starter + Drop> TaskRunner for ProcessRunner<'p, 'i, 'l, S> {
     ghost use Rattle.bf_process.specs.Words.{MayAnswer, MayGiveUp, lost_through, through};
 
     ghost may_answer = { λ s n g r. MayAnswer
@@ -197,7 +197,7 @@ impl<'s, 'p, 'i, 'l, S: Starter> TaskRunner for ProcessRunner<'s, 'p, 'i, 'l, S>
     }
 }
 
-impl<'s, 'p, 'i, 'l, S: Starter> DetailedRunner for ProcessRunner<'s, 'p, 'i, 'l, S> {
+impl<'p, 'i, 'l, S: Starter + Drop> DetailedRunner for ProcessRunner<'p, 'i, 'l, S> {
     /// Runs the try's program and gives its answer with the signal that ended the program, or the system's words for
     /// why it wasn't started. At a fault the ticket comes back.
     fn run_in_detail(
@@ -205,7 +205,7 @@ impl<'s, 'p, 'i, 'l, S: Starter> DetailedRunner for ProcessRunner<'s, 'p, 'i, 'l
         ticket: Ticket,
     ) -> Result<(Done, Option<Detail>), (Ticket, RunnerFault)> {
         match self.run_try(ticket.name(), ticket.given()) {
-            Ok(Heard { raw, detail }) => Ok((ticket.answer(raw), detail)),
+            Ok(Heard { raw, detail, .. }) => Ok((ticket.answer(raw), detail)),
             Err(fault) => Err((ticket, fault)),
         }
     }
