@@ -3,13 +3,13 @@ use Rattle.std.proofs.Common.{◌≡◌, ℕ, ◌+◌, ◌/◌, ◌%◌, ◌<◌
 use Rattle.std.specs.Char.{digit_char}
 use Rattle.std.specs.List.{flat_map, list_any, list_all}
 use Rattle.std.specs.Str.{chars, NoCharPasses}
-use Rattle.std.proofs.lemmas.Bool.{cond_both, or_parts, and_parts}
+use Rattle.std.proofs.lemmas.Bool.{cond_both, ltb-true, or_parts, and_parts}
 use Rattle.std.proofs.lemmas.List.Elements.{All-head, All-tail}
 use Rattle.std.proofs.lemmas.Str.{encode_ascii, NoCharPasses-nil, NoCharPasses-append}
 use lib.Utf8.{encode}
 use Rattle.bf_quoted.specs.Seen.{is_unseen_in}
 use Rattle.bf_quoted.specs.Words.{is_bare_byte_in, is_bare_word_in, quoted_char, octal, escaped_char, quoted}
-use Rattle.bf_quoted.specs.Values.{shown_char, shown}
+use Rattle.bf_quoted.specs.Values.{escape, escape_of, shown_char, shown}
 use Rattle.bf_quoted.proofs.CharFacts.{IsByte, small_bytes, unseen_small, seen_ascii, bare_small}
 
 abbrev AllSeen : List ℕ → Type 0
@@ -83,13 +83,19 @@ seen_digit : (d : ℕ) (bs : List ℕ) → d < 16 → AllSeen bs → AllSeen (di
 seen_digit d bs small rest =
     cond_both (ltb d 10) (48 + d) (87 + d) (λ b. AllSeen (b ∷ bs)) (λ _. seen_cons (48 + d) bs (omega arith) (omega arith) rest) (λ _. seen_cons (87 + d) bs (omega arith) (omega arith) rest)
 
+seen_escape : (c : ℕ) → c < 65_536 → AllSeen (escape c)
+seen_escape c small =
+    seen_cons 92 _ (omega arith) (omega arith) (seen_cons 117 _ (omega arith) (omega arith) (seen_digit (c / 4_096) _ (omega arith) (seen_digit (c / 256 % 16) _ (omega arith) (seen_digit (c / 16 % 16) _ (omega arith) (seen_digit (c % 16) [] (omega arith) seen_nil)))))
+
+seen_escape_of : (c : ℕ) → c < 1_114_112 → AllSeen (escape_of c)
+seen_escape_of c small =
+    cond_both (ltb c 65_536) _ _ AllSeen
+    (λ e. seen_escape c (ltb-true c 65_536 e))
+    (λ _. NoCharPasses-append is_unseen_in (escape (0xD7C0 + c / 1_024)) (escape (0xDC00 + c % 1_024)) (seen_escape _ (omega arith)) (seen_escape _ (omega arith)))
+
 seen_shown_char : (c : ℕ) → AllSeen (shown_char c)
 seen_shown_char c =
-    cond_both (is_unseen_in c) _ _ AllSeen
-    (λ unseen.
-    let small = unseen_small c unseen in
-    seen_cons 92 _ (omega arith) (omega arith) (seen_cons 117 _ (omega arith) (omega arith) (seen_digit (c / 4_096) _ (omega arith) (seen_digit (c / 256 % 16) _ (omega arith) (seen_digit (c / 16 % 16) _ (omega arith) (seen_digit (c % 16) [] (omega arith) seen_nil))))))
-    (λ seen. seen_char c seen)
+    cond_both (is_unseen_in c) _ _ AllSeen (λ unseen. seen_escape_of c (unseen_small c unseen)) (λ seen. seen_char c seen)
 
 pub seen_value : (json : List ℕ) → AllSeen (shown json)
 seen_value json = seen_all shown_char seen_shown_char (chars json)

@@ -2,6 +2,7 @@
 //!
 //! A word of a shell's line stands as it is, in `'..'` or in `$'..'`; a value stands as JSON text. In both no character is left that a
 //! terminal doesn't show as itself: no control, no line feed, nothing without width and nothing that turns the direction of a text.
+//! Which these are is `is_unseen_in` of `specs/Seen.antt`, for all that the program writes there.
 #![tactic(auto)]
 
 mod laws;
@@ -15,5 +16,5 @@ pub use laws::{
     all_of_a_word_is_seen,
 };
 pub use line::push_line;
-pub use value::push_shown_value;
+pub use value::{push_shown_lines, push_shown_value};
 pub use word::push_quoted;

@@ -4,7 +4,7 @@ use bf_value::Text;
 use std::test::Fail;
 
 /// Words, and how each stands on a line.
-static WORDS: [(&str, &str); 29] = [
+static WORDS: [(&str, &str); 32] = [
     ("a", "a"),
     ("Az09_@+:,./-", "Az09_@+:,./-"),
     ("-x", "-x"),
@@ -34,10 +34,13 @@ static WORDS: [(&str, &str); 29] = [
     ("\u{61c}", r"$'\330\234'"),
     ("\u{202e}x", r"$'\342\200\256x'"),
     ("\u{feff}", r"$'\357\273\277'"),
+    ("\u{180e}", r"$'\341\240\216'"),
+    ("\u{e0041}", r"$'\363\240\201\201'"),
+    ("\u{1f600}", "'\u{1f600}'"),
 ];
 
 /// Compact JSON texts, and what a terminal is given of them.
-static VALUES: [(&str, &str); 7] = [
+static VALUES: [(&str, &str); 10] = [
     ("[1,null]", "[1,null]"),
     (r#""a é\u0001""#, r#""a é\u0001""#),
     ("\"a\u{9b}b\"", r#""a\u009bb""#),
@@ -45,6 +48,15 @@ static VALUES: [(&str, &str); 7] = [
     ("\"\u{200b}\u{200f}\"", r#""\u200b\u200f""#),
     ("\"\u{202e}x\"", r#""\u202ex""#),
     ("\"\u{fff9}\u{fffb}\u{fffc}\"", "\"\\ufff9\\ufffb\u{fffc}\""),
+    (
+        "\"\u{34f}\u{115f}\u{180e}\u{3164}\u{fe0f}\"",
+        r#""\u034f\u115f\u180e\u3164\ufe0f""#,
+    ),
+    (
+        "\"\u{e0041}\u{e0fff}\u{e1000}\"",
+        "\"\\udb40\\udc41\\udb43\\udfff\u{e1000}\"",
+    ),
+    ("\"\u{a0}\u{3000}\u{1f600}\"", "\"\u{a0}\u{3000}\u{1f600}\""),
 ];
 
 #[test]

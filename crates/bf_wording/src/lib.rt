@@ -16,4 +16,4 @@ pub use lists::{push_name_list, push_separated};
 pub use moments::{short_moment, without_midnight};
 pub use numbers::{push_count, push_number};
 pub use text::{count_text, name_list, text_of_number};
-pub use value::value_text;
+pub use value::{chars_of, cut_text, value_text};

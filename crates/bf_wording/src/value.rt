@@ -10,7 +10,7 @@ use bf_value::{OutOfMemory, Text, Xval, text_of};
 use std::alloc::Global;
 
 /// Gives the characters of a text, in order.
-fn chars_of(alloc: Global, shown: &str) -> Result<Vec<char>, OutOfMemory>
+pub fn chars_of(alloc: Global, shown: &str) -> Result<Vec<char>, OutOfMemory>
     ensures { IfOk result (λ all. all.items ≡ chars shown.now) }
 {
     let mut all = Vec::new(alloc);
@@ -41,8 +41,9 @@ fn cut_text_with_count(alloc: Global, first: &[char], count: usize) -> Result<Te
     Ok(Text::new(format!(in alloc; "{first}... ({count} characters)")?))
 }
 
-/// Copies a text; where it has more than `most` characters, only the first `most`, with how many it has in all.
-fn cut_text(alloc: Global, shown: &str, most: usize) -> Result<Text, OutOfMemory>
+/// Copies a text; where it has more than `most` characters, only the first `most`, with how many it has in all, as
+/// `abc... (1,234 characters)`.
+pub fn cut_text(alloc: Global, shown: &str, most: usize) -> Result<Text, OutOfMemory>
     ensures { IfOk result (λ text. text ≡ cut most shown.now) }
 {
     let all = chars_of(alloc, shown)?;
