@@ -740,7 +740,6 @@ m 2024-01-01
 LINES
 bad_lines <<< ' '
 bad_lines <<< '2024-01-01 m '
-bad_lines <<< $'2024-01-01\tm'
 earliest() {
     local line=$1
     shift
@@ -748,6 +747,12 @@ earliest() {
     is_told 2 "$line" --seeds "$seeds"
 }
 earliest 'refused 40 unknown task' '2024-01-01 q' x '2024-02-01 m'
+# What a terminal doesn't show is escaped, and a long line cut.
+earliest 'refused 45 bad seed: 2024-01-01\u0009m' $'2024-01-01\tm'
+earliest 'refused 45 bad seed: \u001b[31m\u009bx\u202e\udb40\udc41' $'\e[31m\u009bx\u202e\U000e0041'
+long_line=$(printf 'x%.0s' {1..200})
+earliest "refused 45 bad seed: $long_line" "$long_line"
+earliest "refused 45 bad seed: $long_line... (1,201 characters)" "$long_line$long_line$long_line$long_line$long_line${long_line}y"
 earliest 'refused 41 unknown run' '2024-02-01 m' '2024-01-01 q' x
 earliest 'refused 45 bad seed: x' x '2024-01-01 q' '2024-02-01 m'
 earliest 'refused 45 bad seed: x' '2024-01-01 m' '' '2024-01-01 sum -1' x y

@@ -10,6 +10,8 @@ use Rattle.bf_dependents.specs.declared.place.Place.{Place}
 use Rattle.bf_dependents.specs.declared.seeds.Seed.{Seed}
 use Rattle.bf_dependents.specs.Faults as clearing
 use Rattle.bf_dependents.specs.Seeds.{places_in, seed_fault}
+use Rattle.bf_quoted.specs.Values.{shown}
+use Rattle.bf_wording.specs.Values.{cut}
 use Rattle.bf_seeds.specs.declared.fault.SeedsFault.{SeedsFault}
 use Rattle.bf_seeds.specs.declared.fault.SeedsFault.TheVariants.{BadFile, BadSeed, Unknown, OutOfMemory}
 
@@ -93,11 +95,15 @@ ArePlaces dag intervals lines places =
     (seeds : List Seed) × AreSeeds dag intervals lines seeds
     × (places ≡ places_in dag intervals seeds)
 
+-- a bad line as it is told: as a terminal shows it, up to the 200th character
+abbrev pub told_line_of : List ℕ → List ℕ
+told_line_of line = cut 200 (shown line)
+
 -- why a line is refused: it is of no seed, and else its seed is
 abbrev pub IsFaultOfLine : Dag → List Interval → List ℕ → SeedsFault → Type 0
 IsFaultOfLine dag intervals line BadFile = ⊥
 IsFaultOfLine dag intervals line (BadSeed bad) =
-    (bad ≡ line) × ((seed : Seed) → SpellsSeed line seed → ⊥)
+    (bad ≡ told_line_of line) × ((seed : Seed) → SpellsSeed line seed → ⊥)
 IsFaultOfLine dag intervals line (Unknown fault) =
     (seed : Seed) × SpellsSeed line seed × (seed_fault dag intervals (seed ∷ []) ≡ Some fault)
 IsFaultOfLine dag intervals line OutOfMemory = Unit {0}

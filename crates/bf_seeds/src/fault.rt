@@ -12,7 +12,8 @@ use std::fmt;
 pub enum SeedsFault {
     /// The file has more than 8,388,608 bytes, or isn't UTF-8.
     BadFile,
-    /// This line is neither `RUN TASK` nor `RUN TASK INDEX`.
+    /// A line is neither `RUN TASK` nor `RUN TASK INDEX`: this is told of it, at most 200 characters, as a terminal shows
+    /// them.
     BadSeed(Text),
     /// A line names a task that the plan lacks, or a run that is the start of no data interval.
     Unknown(ClearFault),

@@ -1,7 +1,7 @@
 //! Seeds files.
 ghost use Rattle.std.specs.Prelude.{◌≡◌, ◌⊎◌, ◌≤◌, length, map, IfOk, IfErr};
 ghost use Rattle.bf_seeds.specs.declared.fault.SeedsFault.TheVariants;
-ghost use Rattle.bf_seeds.specs.Seeds.{ArePlaces, IsFaultOfLine, IsFirstFault, lines_in};
+ghost use Rattle.bf_seeds.specs.Seeds.{ArePlaces, IsFaultOfLine, IsFirstFault, lines_in, told_line_of};
 ghost use Rattle.bf_seeds.specs.inner.Seeds.{IsPlaceOf};
 
 use crate::fault::SeedsFault;
@@ -9,7 +9,9 @@ use crate::line::words_in;
 use bf_dependents::{Place, Seed, add_place, place_of};
 use bf_interval::Interval;
 use bf_plan::Plan;
-use bf_value::Text;
+use bf_quoted::push_shown_value;
+use bf_value::{OutOfMemory, Text};
+use bf_wording::cut_text;
 use std::alloc::{AllocError, Global};
 
 /// The lines of a text that aren't empty, without their ends.
@@ -19,12 +21,26 @@ fn lines_of(alloc: Global, text: &str) -> Result<Vec<&str>, AllocError>
     text.lines().filter(|line| !line.is_empty()).collect(alloc)
 }
 
-/// The fault `BadSeed` with this line; `OutOfMemory` where there is no memory for a copy of it.
-fn bad_seed(alloc: Global, line: &str) -> SeedsFault
-    ensures { (result ≡ TheVariants.BadSeed line.now) ⊎ (result ≡ TheVariants.OutOfMemory) }
+/// The most characters that are told of a bad line.
+const MOST_TOLD: usize = 200;
+
+/// A line as it is told: with escapes for what a terminal wouldn't show as itself, and of more than 200 characters only
+/// the first, with how many there are.
+fn told_line(alloc: Global, line: &str) -> Result<Text, OutOfMemory>
+    ensures { IfOk result (λ told. told ≡ told_line_of line.now) }
 {
-    match Text::copy_of(alloc, line) {
-        Ok(line) => SeedsFault::BadSeed(line),
+    let mut shown = String::new(alloc);
+    push_shown_value(&mut shown, line)?;
+    cut_text(alloc, shown.as_str(), MOST_TOLD)
+}
+
+/// The fault `BadSeed` with this line as it is told; `OutOfMemory` where there is no memory for that.
+fn bad_seed(alloc: Global, line: &str) -> SeedsFault
+    ensures { (result ≡ TheVariants.BadSeed (told_line_of line.now))
+        ⊎ (result ≡ TheVariants.OutOfMemory) }
+{
+    match told_line(alloc, line) {
+        Ok(told) => SeedsFault::BadSeed(told),
         Err(_) => SeedsFault::OutOfMemory,
     }
 }
