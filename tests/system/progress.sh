@@ -49,6 +49,12 @@ is_same 'what is told where all is to be quiet' '' "$(< err)"
 timed --workers 1
 is_same 'what is told unasked' '' "$(< err)"
 
+# ---- what a program prints doesn't act on a terminal
+
+tasks '{"id":"b","kind":"branch","command":["printf","\"\u009b31m\u202e\ud83d\ude00\udb40\udc41\""]}'
+timed --progress
+is_same 'the line of a value that a terminal would act on' "failed: b $run try 1: a branch that names no direct downstream: \"\\u009b31m\\u202e😀\\udb40\\udc41\"" "$(head -n 1 err)"
+
 # ---- what runs longest, or where nothing runs has waited longest, is told each minute in which nothing comes
 
 fast() {
@@ -127,6 +133,7 @@ is_same 'the first line beside 64 tries' 'runs 0/1 (1 open)  tasks 0/64  running
 # ---- on a terminal
 
 command -v script > /dev/null || skips_rest 'what stands on a terminal, for want of script'
+export TERM=xterm
 
 # What a command that has a terminal for its standard error writes there stands in `typed`.
 at_terminal() {
@@ -157,6 +164,13 @@ keeps_line --workers 1
 keeps_line --workers 8
 keeps_line --workers 8 --progress
 cp out report
+# A dumb terminal counts as none.
+TERM=dumb at_terminal run "$graph" "${day[@]}" --workers 8 --progress
+is_same 'what a dumb terminal gets' "failed: quick $run try 1: exit status 1
+$held
+$last" "$(tr -d '\r' < typed)"
+TERM=dumb at_terminal run "$graph" "${day[@]}" --workers 8
+is_same 'what a dumb terminal gets unasked' '' "$(< typed)"
 at_terminal run "$graph" "${day[@]}" --workers 8 --quiet
 is_same 'the screen of a quiet run' '' "$(on_screen)"
 tasks '{"id":"quick","command":["false"]},{"id":"hangs","upstream":["quick"],"rule":"all_done","command":["sleep","1.4"]}'

@@ -1,6 +1,7 @@
 -- What is told of failed tries.
 use Rattle.std.specs.Prelude.{◌≡◌, ℕ, List, [], ◌++◌, codes, Option, None, Some, IfSome}
 use Rattle.bf_value.specs.declared.name.JobName.{JobName}
+use Rattle.bf_quoted.specs.Values.{shown}
 use Rattle.bf_plan.specs.declared.plan.Dag.{Dag}
 use Rattle.bf_interval.specs.declared.interval.Interval.{Interval}
 use Rattle.bf_words.specs.declared.context.JobContext.{JobContext}
@@ -24,30 +25,36 @@ abbrev pub log_hint_text_of : Option (List ℕ) → JobContext → Failure → L
 log_hint_text_of None try failure = []
 log_hint_text_of (Some folder) try failure = codes ", see " ++ log_of folder try (log_ending_of failure)
 
--- as `failed: load 2024-02-14T00:00:00Z index 2 try 1: exit status 3, see PATH`, and a line feed
-abbrev pub failed_line_of : Option (List ℕ) → JobContext → Failure → List ℕ
-failed_line_of logs try failure =
+-- as `failed: load 2024-02-14T00:00:00Z index 2 try 1: exit status 3, see PATH`
+abbrev pub told_failure_of : Option (List ℕ) → JobContext → Failure → List ℕ
+told_failure_of logs try failure =
     codes "failed: " ++ (try_text_of try
-    ++ (codes ": " ++ (failure_text failure ++ (log_hint_text_of logs try failure ++ codes "\n"))))
+    ++ (codes ": " ++ (failure_text failure ++ log_hint_text_of logs try failure)))
 
--- the line of a failed try, as it may be answered
-pub record IsToldLine (may_answer : JobName → Given → Raw
-    → Type 0) (dag : Dag) (intervals : List Interval) (logs : Option (List ℕ))
+-- the same so that a terminal shows each character as itself, and a line feed
+abbrev pub failed_line_of : Option (List ℕ) → JobContext → Failure → List ℕ
+failed_line_of logs try failure = shown (told_failure_of logs try failure) ++ codes "\n"
+
+-- the line of a failed try, as it may be answered, with what may be known of it
+pub record IsToldLine (may_answer : JobName → Given → Raw → Type 0)
+    (may_know : JobName → Given → Raw → Option Detail → Type 0) (dag : Dag) (intervals : List Interval) (logs : Option (List ℕ))
     (line : List ℕ) : Type 0 where
   pub done : Answered
   pub detail : Option Detail
   pub failure : Failure
   pub context : JobContext
   pub may : may_answer done.name done.given done.raw
+  pub knows : may_know done.name done.given done.raw detail
   pub failed : failure_of dag done.name.task done.raw ≡ Some failure
   pub is_context : IsContextOf dag intervals done.name context
   pub is_line : line ≡ failed_line_of logs context (detailed failure detail)
 
--- the lines of tries that the runner may answer may be told
-abbrev pub MayTellOf : (List ℕ → Type 0) → (JobName → Given → Raw → Type 0) → Dag → List Interval
-    → Option (List ℕ) → Type 0
-MayTellOf may_tell may_answer dag intervals logs =
-    (line : List ℕ) → IsToldLine may_answer dag intervals logs line → may_tell line
+-- the lines of tries that the runner may answer, with what it may know of them, may be told
+abbrev pub MayTellOf : (List ℕ → Type 0) → (JobName → Given → Raw → Type 0)
+    → (JobName → Given → Raw → Option Detail → Type 0) → Dag → List Interval → Option (List ℕ)
+    → Type 0
+MayTellOf may_tell may_answer may_know dag intervals logs =
+    (line : List ℕ) → IsToldLine may_answer may_know dag intervals logs line → may_tell line
 
 -- a line may be told to this one, or there is nobody to tell
 abbrev pub may_tell_to : {T : Type 0} → (T → List ℕ → Type 0) → Option T → List ℕ → Type 0

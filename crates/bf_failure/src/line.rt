@@ -5,6 +5,7 @@ ghost use Rattle.bf_failure.specs.Tried.{try_text_of};
 
 use crate::failure::Failure;
 use crate::log::{index_text, log_path};
+use bf_quoted::push_shown_value;
 use bf_value::OutOfMemory;
 use bf_words::JobContext;
 use std::alloc::Global;
@@ -53,7 +54,8 @@ pub fn try_text(alloc: Global, context: &JobContext<'_>) -> Result<String, OutOf
 }
 
 /// Makes the line for a failed try, with its line feed, in the form `failed: load 2024-02-14T00:00:00Z index 2 try 1:
-/// exit status 3, see PATH`. The path is that of a log below the folder `logs`, and is left out for None.
+/// exit status 3, see PATH`, in which a terminal shows each character as itself. The path is that of a log below the
+/// folder `logs`, and is left out for None.
 pub fn failed_line(
     alloc: Global,
     logs: Option<&str>,
@@ -66,5 +68,9 @@ pub fn failed_line(
 {
     let name = try_text(alloc, context)?;
     let see = log_hint_text(alloc, logs, context, failure)?;
-    Ok(format!(in alloc; "failed: {name}: {failure}{see}\n")?)
+    let told = format!(in alloc; "failed: {name}: {failure}{see}")?;
+    let mut line = String::new(alloc);
+    push_shown_value(&mut line, told.as_str())?;
+    line.push_str("\n")?;
+    Ok(line)
 }

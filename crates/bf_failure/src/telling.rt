@@ -46,7 +46,8 @@ impl<'a, R: DetailedRunner + Drop, T: Teller + Drop> Model for Telling<'a, R, T>
     } };
 
     ghost invariant = { λ s. MayTellOf (may_tell_to T.may_tell s.teller)
-        (R.may_answer s.runner) s.plan.now.dag s.runs.now (option_map (λ l. l.now) s.logs) };
+        (R.may_answer s.runner) (R.may_know s.runner) s.plan.now.dag s.runs.now
+        (option_map (λ l. l.now) s.logs) };
 }
 
 impl<'a, R: DetailedRunner + Drop, T: Teller + Drop> Telling<'a, R, T> {
@@ -61,7 +62,8 @@ impl<'a, R: DetailedRunner + Drop, T: Teller + Drop> Telling<'a, R, T> {
         teller: Option<T>,
     ) -> Self
         requires { MayTellOf (may_tell_to T.may_tell teller)
-            (R.may_answer runner) plan.now.dag runs.now (option_map (λ l. l.now) logs) }
+            (R.may_answer runner) (R.may_know runner) plan.now.dag runs.now
+            (option_map (λ l. l.now) logs) }
         ensures { result ≡ record {
           runner = runner;
           teller = teller;
@@ -88,10 +90,12 @@ impl<'a, R: DetailedRunner + Drop, T: Teller + Drop> Telling<'a, R, T> {
     }
 
     /// Tells the line of an answered try that failed; does nothing where it didn't fail, or its task or run doesn't
-    /// exist. `detail` is what is known beside the answer. No contract covers this.
+    /// exist. `detail` is what is known beside the answer.
     fn tell(&self, teller: &T, done: &Done, detail: Option<Detail>) -> Result<(), OutOfMemory>
         requires teller { self.now.teller ≡ Some teller.now }
         requires may { R.may_answer self.now.runner done.now.name done.now.given done.now.raw }
+        requires knows { R.may_know self.now.runner done.now.name done.now.given done.now.raw
+            detail }
     {
         let Some(context) = context_of(self.plan, self.runs, done.name()) else {
             return Ok(());
@@ -134,6 +138,8 @@ impl<'a, R: DetailedRunner + Drop, T: Teller + Drop> TaskRunner for Telling<'a, 
 }
 
 impl<'a, R: DetailedRunner + Drop, T: Teller + Drop> DetailedRunner for Telling<'a, R, T> {
+    ghost may_know = { λ s n g raw detail. R.may_know s.runner n g raw detail };
+
     /// Has the inner runner make the try, tells its line where it fails, and gives what that runner gave.
     fn run_in_detail(
         &self,

@@ -198,6 +198,8 @@ impl<'p, 'i, 'l, S: Starter + Drop> TaskRunner for ProcessRunner<'p, 'i, 'l, S> 
 }
 
 impl<'p, 'i, 'l, S: Starter + Drop> DetailedRunner for ProcessRunner<'p, 'i, 'l, S> {
+    ghost may_know = { λ s n g raw detail. Unit {0} };
+
     /// Runs the try's program and gives its answer with the signal that ended the program, or the system's words for
     /// why it wasn't started. At a fault the ticket comes back.
     fn run_in_detail(

@@ -244,6 +244,10 @@ impl TaskRunner for TableRunner<'_> {
 
 /// A table knows no more than the answer.
 impl DetailedRunner for TableRunner<'_> {
+    ghost use Rattle.std.specs.Prelude.{◌≡◌, None};
+
+    ghost may_know = { λ s n g raw detail. detail ≡ None };
+
     /// Answers by the table, with nothing beside the answer.
     fn run_in_detail(
         &self,
