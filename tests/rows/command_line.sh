@@ -383,6 +383,8 @@ single g t --at => error: a value is required for '--at <T>' but none was suppli
 single g t --at 2024-01-01 --at 2024-01-02 => error: the argument '--at <T>' cannot be used multiple times|
 run -V => error: unexpected argument '-V' found|
 ROWS
+"$program" $'\e[31m\u202e' > out 2> err || true
+is_same 'of a word that a terminal would act on' "error: unrecognized subcommand '\\u001b[31m\\u202e'" "$(head -n 1 err)"
 for line in $'check \xff' $'\xff g' $'dry g t --workers \xff'; do
     is_wrong "$line" 'error: invalid UTF-8 was detected in one or more arguments|'
 done

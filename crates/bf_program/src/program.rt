@@ -24,6 +24,7 @@ use bf_device::{Write, send};
 use bf_disk::{Journals, Launchers, Source};
 use bf_file::Folder;
 use bf_process::Starter;
+use bf_quoted::push_shown_lines;
 use bf_views::{
     Canvas, answer_answers, answer_explain, answer_page, answer_show, answer_show_json,
 };
@@ -198,7 +199,8 @@ where
     }
 }
 
-/// Writes `clap`'s help or version to `out`, with `Success`, or what is wrong with the line to `err`, with `Refused`.
+/// Writes `clap`'s help or version to `out`, with `Success`, or what is wrong with the line to `err`, with `Refused`,
+/// with escapes for what a terminal wouldn't show as itself.
 /// `Err` at want of memory, or where `out` fails; nothing goes to `err` then.
 fn show_clap_error<W: Write, E: Write>(
     alloc: Global,
@@ -226,8 +228,10 @@ fn show_clap_error<W: Write, E: Write>(
     }
     let text = error.to_string(alloc)?;
     if error.use_stderr() {
+        let mut shown = String::new(alloc);
+        push_shown_lines(&mut shown, text.as_str())?;
         // Where standard error fails, nothing is left to say so on.
-        let _ = send(err, text.as_bytes());
+        let _ = send(err, shown.as_bytes());
         return Ok(Status::Refused);
     }
     send(out, text.as_bytes())?;
