@@ -5,6 +5,7 @@ ghost use Rattle.bf_progress.specs.inner.Lines.{line_at};
 use bf_device::{Output, send};
 use bf_value::OutOfMemory;
 use std::alloc::Global;
+use std::env;
 use std::io::IsTerminal;
 
 /// Where progress is shown, apart from what a backfill prints.
@@ -24,9 +25,10 @@ pub trait Screen {
 impl Screen for HostRuntime {
     ghost may_be_terminal = { λ _ is_terminal. Unit {0} };
 
-    /// Answers whether standard error is a terminal.
+    /// Answers whether standard error is a terminal, and TERM isn't `dumb`: on such a one no line can be overwritten.
     fn is_terminal(&self) -> bool {
-        self.stderr().is_terminal()
+        let term = env::var(self, "TERM").ok();
+        self.stderr().is_terminal() && term.as_deref().unwrap_or("") != "dumb"
     }
 
     /// Writes the text to standard error in one write. A failure is ignored.
