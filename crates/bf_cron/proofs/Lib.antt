@@ -1,5 +1,5 @@
 mod Words
-mod Items
+pub mod Items
 pub mod Rules
 mod Decimals
 mod Forms

@@ -1,4 +1,5 @@
 pub mod Cron
+pub mod BadField
 pub mod Grammar
 pub mod Minutes
 pub mod LeapYears

@@ -11,6 +11,7 @@
 //! restricted either of them suffices; else every field must match.
 //!
 //! `CronSpec::read` reads a text, `matches` says which civil minutes it has, and `never_fires` whether it has none.
+//! `bad_field` tells which field of a text can't be read.
 #![tactic(auto)]
 
 mod field;
@@ -21,6 +22,7 @@ mod minutes;
 mod numbers;
 mod reading;
 mod spec;
+mod wrong_field;
 
 pub use field::Field;
 pub use item::Item;
@@ -28,3 +30,4 @@ pub use laws::{fires_in_each_leap_year, items_are_read_as_written, schedules_are
 pub use matching::{Matches, Scheduled};
 pub use minutes::{DATES, date_of, minute_of};
 pub use spec::{CronFault, CronSpec};
+pub use wrong_field::bad_field;

@@ -83,7 +83,7 @@ fn with_numbers(item: Item, word: u64) -> u64
 }
 
 /// Reads a field, items joined by commas, as the set of its numbers, one bit each; None where an item is bad.
-fn read_field(field: Field, text: &[u8]) -> Option<u64>
+pub(crate) fn read_field(field: Field, text: &[u8]) -> Option<u64>
     ensures { IsField (field_of field text.now) result }
 {
     let mut word = 0;
