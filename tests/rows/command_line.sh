@@ -543,6 +543,7 @@ LINES
 {
     echo 'refused 6 unknown upstream: a'
     printf 'tasks[0].upstream[%d]: "x%d": has to be the id of a task\n' $(for ((n = 0; n < 100; n++)); do echo "$n $n"; done)
+    echo 'and more'
 } | is_explained 2 many
 
 sum

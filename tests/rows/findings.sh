@@ -104,6 +104,107 @@ tasks[2].id: missing: has to be an id of 1 to 250 letters, digits, dashes, dots 
 tasks[3]: 7: has to be an object
 LINES
 
+# The first hundred, and whether there are more.
+hundred() {
+    printf '{"dag_id":"d","schedule":"@daily","tasks":['
+    printf '%s' "$(yes 7 | head -n "$1" | paste -sd,)"
+    echo ']}'
+    for ((n = 0; n < 100; n++)); do
+        echo "tasks[$n]: 7: has to be an object"
+    done
+}
+is_told < <(hundred 100)
+is_told < <(hundred 101; echo 'and more')
+is_told < <(hundred 2000; echo 'and more')
+
+# Long texts are cut.
+long=$(printf 'k%.0s' {1..199})
+is_told <<LINES
+{"dag_id":"d","schedule":"@daily","tasks":[],"${long:1}":0}
+top: unknown key "${long:1}": a graph file has the keys dag_id, schedule, zone, max_active_runs, pools and tasks
+LINES
+is_told <<LINES
+{"dag_id":"d","schedule":"@daily","tasks":[],"$long":0}
+top: unknown key "$long... (201 characters): a graph file has the keys dag_id, schedule, zone, max_active_runs, pools and tasks
+LINES
+is_told <<LINES
+{"dag_id":"d","schedule":"@daily","zone":"$long","pools":{"$long,":1},"tasks":[]}
+zone: "$long... (201 characters): has to be UTC, an offset as +01:00, a rule as CET-1CEST,M3.5.0,M10.5.0/3, or file with a zone file beside it
+pools: "$long... (202 characters): 1: the name of a pool has 1 to 250 letters, digits, dashes, dots and underscores
+LINES
+
+# The zone of a zone file that isn't named.
+is_told <<'LINES'
+{"dag_id":"d","schedule":"@daily","zone":"file","tasks":[]}
+zone: "file": --zone-file PATH is missing
+LINES
+is_told <<'LINES'
+{"dag_id":"d","schedule":"@daily","zone":"flie","tasks":[]}
+zone: "flie": has to be UTC, an offset as +01:00, a rule as CET-1CEST,M3.5.0,M10.5.0/3, or file with a zone file beside it
+LINES
+
+# Which field of a schedule is wrong.
+wrong_field() {
+    is_told <<LINES
+{"dag_id":"d","schedule":"$1","tasks":[]}
+schedule: "$1": $2, each alone or as a-b or a-b/n, with commas between
+LINES
+}
+wrong_field '61 * * * *' 'minute: has to be *, */n, or numbers from 0 to 59'
+wrong_field '0 24 * * *' 'hour: has to be *, */n, or numbers from 0 to 23'
+wrong_field '0 0 0 * *' 'day of the month: has to be *, */n, or numbers from 1 to 31'
+wrong_field '0 0 1 foo *' 'month: has to be *, */n, or numbers from 1 to 12 or names as jan'
+wrong_field '0 0 * * fri-mon' 'weekday: has to be *, */n, or numbers from 0 to 7 or names as mon'
+wrong_field '0 5/2 1 13 *' 'hour: has to be *, */n, or numbers from 0 to 23'
+is_told <<'LINES'
+{"dag_id":"d","schedule":"0 0 * *","tasks":[]}
+schedule: "0 0 * *": has to be five fields of cron that some day matches, or @hourly, @daily, @weekly, @monthly, @quarterly or @yearly
+LINES
+
+# The nearest of those that are near: to `12` one of three characters of t12 is added, and of t2 one of two is another. Changes
+# are counted in characters, as lengths are.
+is_told <<'LINES'
+{"dag_id":"d","schedule":"@daily","tasks":[{"id":"t2"},{"id":"t12"},{"id":"c"},{"id":"b","upstream":["12","éc","éxtract"]},{"id":"extract"}]}
+tasks[3].upstream[0]: "12": did you mean "t12"?
+tasks[3].upstream[1]: "éc": has to be the id of a task
+tasks[3].upstream[2]: "éxtract": did you mean "extract"?
+LINES
+# A change at the beginning or the end of a long name, and changes over more than 24 characters.
+middle=$(printf 'm%.0s' {1..22})
+is_told <<LINES
+{"dag_id":"d","schedule":"@daily","tasks":[{"id":"a$middle${middle}z"},{"id":"b","upstream":["x$middle${middle}z","a$middle${middle}x","${middle}ax${middle}"]}]}
+tasks[1].upstream[0]: "x$middle${middle}z": did you mean "a$middle${middle}z"?
+tasks[1].upstream[1]: "a$middle${middle}x": did you mean "a$middle${middle}z"?
+tasks[1].upstream[2]: "${middle}ax${middle}": has to be the id of a task
+LINES
+is_told <<LINES
+{"dag_id":"d","schedule":"@daily","tasks":[{"id":"a${middle}bc"},{"id":"d","upstream":["x${middle}yc","x${middle}bz"]}]}
+tasks[1].upstream[0]: "x${middle}yc": did you mean "a${middle}bc"?
+tasks[1].upstream[1]: "x${middle}bz": has to be the id of a task
+LINES
+
+# A whole number that needs 64 bits without a sign.
+is_told <<'LINES'
+{"dag_id":"d","schedule":"@daily","max_active_runs":9223372036854775808,"tasks":[{"id":"a","retries":9223372036854775807}]}
+max_active_runs: a number that isn't whole: has to be a whole number from 1 to 4096
+tasks[0].retries: 9223372036854775807: has to be a whole number from 0 to 100
+LINES
+
+# A limit that no place shows is told beside what a place shows.
+sources=$(for ((n = 0; n < 17; n++)); do printf '{"id":"t%d"},' $n; done)
+pulls=$(for ((n = 0; n < 17; n++)); do printf ',{"pull":"t%d"}' $n; done)
+is_told <<LINES
+{"dag_id":"d","schedule":"@daily","zone":"nowhere","tasks":[$sources{"id":"a","command":["echo"$pulls]}]}
+zone: "nowhere": has to be UTC, an offset as +01:00, a rule as CET-1CEST,M3.5.0,M10.5.0/3, or file with a zone file beside it
+limit passed: tasks[17].command: a file has at most 20000 distinct edges, and a command pulls from at most 16 tasks
+LINES
+
+# What a terminal doesn't show.
+is_told <<'LINES'
+{"dag_id":"d","schedule":"@daily","tasks":[{"id":"a\u001b[31m\u009b\u202e\ufe0f\udb40\udc41\u180e\u034f\u115f\u3164"}]}
+tasks[0].id: "a\u001b[31m\u009b\u202e\ufe0f\udb40\udc41\u180e\u034f\u115f\u3164": has to be an id of 1 to 250 letters, digits, dashes, dots and underscores that no task before has
+LINES
+
 # What no place shows.
 is_told <<'LINES'
 {"dag_id":"d","schedule":"@daily","tasks":[{"id":"a","upstream":["b"]},{"id":"b","upstream":["a"]}]}

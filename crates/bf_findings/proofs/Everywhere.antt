@@ -1,5 +1,5 @@
 -- Where something stands in a document is among its places.
-use Rattle.std.proofs.Common.{◌≡◌, ℕ, zero, suc, ◌+◌, List, [], ◌∷◌, ◌++◌, Bool, true, false, if◌then◌else◌, map, filter_map, codes, Option, Some, None, IsSome, is_some, option_and_then, refl, sym, subst, ap, ◌∙◌, arith, inl, inr}
+use Rattle.std.proofs.Common.{◌≡◌, ℕ, zero, suc, ◌+◌, List, [], ◌∷◌, ◌++◌, Bool, true, false, if◌then◌else◌, map, filter_map, codes, Option, Some, None, IsSome, is_some, option_and_then, refl, sym, subst, ap, ◌∙◌, append_assoc, arith, inl, inr}
 use Rattle.std.specs.List.{Contains, cons_option}
 use Rattle.std.specs.Ordering.{nat_cmp, match_ordering, is_eq}
 use Rattle.std.specs.declared.cmp.Ordering.{Ordering}
@@ -170,8 +170,13 @@ word_listed n (suc i) m k (item d ds) w x there e h = Contains-append_right (pla
 
 in_graph : (d : Data) (ms : Members) (x : DocumentPlace) → as_object d ≡ Some ms → Contains (graph_key_places ++ (other_keys ms ++ (pools_if_any (pools_at d) ++ tasks 0 (tasks_at d)))) x → Contains (places_in d) x
 in_graph d ms x e h =
-    let P : Option Members → Type 0 = λ o. Contains (place.Top ∷ members_of_graph d o) x in
-    subst P (sym e) (Contains-append_right (place.Top ∷ []) (graph_key_places ++ (other_keys ms ++ (pools_if_any (pools_at d) ++ tasks 0 (tasks_at d)))) x h)
+    let pools = pools_if_any (pools_at d) in
+    let behind = tasks 0 (tasks_at d) in
+    let P : Option Members → Type 0 = λ o. Contains ((place.Top ∷ members_of_graph d o) ++ behind) x in
+    let Q : List DocumentPlace → Type 0 = λ ps. Contains ps x in
+    let whole : (graph_key_places ++ (other_keys ms ++ pools)) ++ behind ≡ graph_key_places ++ (other_keys ms ++ (pools ++ behind)) =
+    append_assoc graph_key_places (other_keys ms ++ pools) behind ∙ ap (λ ps. graph_key_places ++ ps) (append_assoc (other_keys ms) pools behind) in
+    subst P (sym e) (subst Q (ap (λ ps. place.Top ∷ ps) (sym whole)) (Contains-append_right (place.Top ∷ []) (graph_key_places ++ (other_keys ms ++ (pools ++ behind))) x h))
 
 -- the places of a task
 in_tasks : (d : Data) (n : ℕ) (t : Data) (x : DocumentPlace) → task_value d n ≡ Some t → Contains (task_places n t) x → Contains (places_in d) x

@@ -1,5 +1,5 @@
 -- Lists and objects of values, and the data that they stand for.
-use Rattle.std.proofs.Common.{◌≡◌, ℕ, suc, min, ◌||◌, Bool, List, [], ◌∷◌, length, take, map, Option, None, Some, IfSome, String, Global, refl, ap, ◌∙◌, sym, subst}
+use Rattle.std.proofs.Common.{◌≡◌, ℕ, suc, min, ◌||◌, Bool, List, [], ◌∷◌, length, take, map, Option, None, Some, IfNone, IfSome, String, Global, refl, ap, ◌∙◌, sym, subst}
 use Rattle.std.specs.List.{list_any, filter_map, cons_option}
 use Rattle.std.proofs.lemmas.List.{take-map, take_min}
 use Rattle.serde_json.specs.Data.{Data}
@@ -44,3 +44,7 @@ id_of v = id_known (view v)
 pub one_found : {X : Type 0} (P : X → Type 0) (o : Option X) (x : X) → o ≡ Some x → IfSome o P → P x
 one_found P None x is h = cc
 one_found P (Some y) x is h = let same : y ≡ x = cc in subst P same h
+
+pub none_found : (P : Type 0) {X : Type 0} (o : Option X) → o ≡ None → IfNone o P → P
+none_found P None is h = h
+none_found P (Some y) is h = absurd (cc)

@@ -79,8 +79,12 @@ tasks n (d ∷ ds) = task_places n d ++ tasks (n + 1) ds
 abbrev pub members_of_graph : Data → Option Members → List DocumentPlace
 members_of_graph d None = []
 members_of_graph d (Some ms) =
-    graph_key_places ++ (other_keys ms ++ (pools_if_any (pools_at d) ++ tasks 0 (tasks_at d)))
+    graph_key_places ++ (other_keys ms ++ pools_if_any (pools_at d))
 
--- the places of a document: its keys, those that graph files don't have, its pools and its tasks
+-- the places of a document before its tasks: its keys, those that graph files don't have, and its pools
+abbrev pub head_places : Data → List DocumentPlace
+head_places d = place.Top ∷ members_of_graph d (as_object d)
+
+-- and all its places
 abbrev pub places_in : Data → List DocumentPlace
-places_in d = place.Top ∷ members_of_graph d (as_object d)
+places_in d = head_places d ++ tasks 0 (tasks_at d)

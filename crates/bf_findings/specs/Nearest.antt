@@ -1,5 +1,5 @@
 -- Which of some names is nearest to a text.
-use Rattle.std.specs.Prelude.{◌≡◌, ℕ, ◌≤◌, ◌*◌, List, [], map, length, max, Contains, Bool, true, false, nat_eq, nat_lt, Option, Some, None, ◌⊎◌}
+use Rattle.std.specs.Prelude.{◌≡◌, ℕ, suc, ◌≤◌, ◌-◌, ◌*◌, ◌==◌, List, [], ◌∷◌, map, length, take, drop, reverse, max, Contains, nat_eq, nat_le, nat_lt, if◌then◌else◌, Option, Some, None}
 use Rattle.std.specs.Char.{to_ascii_lowercase}
 use Rattle.std.specs.Str.{chars}
 use Rattle.strsim.specs.Edits.{levenshtein_row}
@@ -7,42 +7,61 @@ use Rattle.strsim.specs.Edits.{levenshtein_row}
 abbrev pub lowered : List ℕ → List ℕ
 lowered text = map to_ascii_lowercase text
 
--- how many edits of characters lead from one text to the other (Levenshtein)
+-- how many changes of a character lead from one to the other (Levenshtein)
 abbrev pub edits : List ℕ → List ℕ → ℕ
-edits from to = levenshtein_row nat_eq (chars from) (chars to) (length (chars to))
+edits from to = levenshtein_row nat_eq from to (length to)
 
--- the same to a name, in whichever case
-abbrev pub distance_to : List ℕ → List ℕ → ℕ
-distance_to text name = edits text (lowered name)
+-- how many first characters two have in common
+unfoldable pub shared : List ℕ → List ℕ → ℕ
+shared [] ys = 0
+shared (x ∷ xs) [] = 0
+shared (x ∷ xs) (y ∷ ys) = if x == y then suc (shared xs ys) else 0
 
--- the name is one of them, so far away, and none of them is nearer
-pub record IsNearestTo (text : List ℕ) (names : List (List ℕ)) (name : List ℕ)
-    (distance : ℕ) : Type 0 where
+-- how many last ones
+abbrev pub shared_at_end : List ℕ → List ℕ → ℕ
+shared_at_end one other = shared (reverse one) (reverse other)
+
+-- two texts without so many of their last characters
+abbrev pub before_end : ℕ → List ℕ → List ℕ → List ℕ × List ℕ
+before_end n one other = (take (length one - n) one, take (length other - n) other)
+
+-- two texts without the end that they have in common
+abbrev pub without_end : List ℕ → List ℕ → List ℕ × List ℕ
+without_end one other = before_end (shared_at_end one other) one other
+
+-- and without their common beginning: where the one differs from the other
+abbrev pub differing_parts : List ℕ → List ℕ → List ℕ × List ℕ
+differing_parts one other =
+    without_end (drop (shared one other) one) (drop (shared one other) other)
+
+-- how many changes lead from a text to a name, where that is less than half of the longer one
+abbrev pub changes_below : ℕ → ℕ → Option ℕ
+changes_below longer changes = if nat_lt (2 * changes) longer then Some changes else None
+
+-- the same of the parts in which they differ, of at most 24 characters
+abbrev pub changes_in : ℕ → List ℕ × List ℕ → Option ℕ
+changes_in longer parts =
+    if nat_le (max (length parts.0) (length parts.1)) 24
+    then changes_below longer (edits parts.0 parts.1) else None
+
+-- how many changes lead from a text to a name that is near; none where it isn't
+unfoldable pub changes_of : List ℕ → List ℕ → Option ℕ
+changes_of text name = changes_in (max (length text) (length name)) (differing_parts text name)
+
+-- the same whatever the case. A name is of ASCII, so that its bytes are its characters
+abbrev pub changes_to : List ℕ → List ℕ → Option ℕ
+changes_to text name = changes_of (chars (lowered text)) (lowered name)
+
+-- the name is one of them, it is near, and none of them is nearer
+pub record IsNearest (text : List ℕ) (names : List (List ℕ)) (name : List ℕ) (changes : ℕ)
+    : Type 0 where
   pub known : Contains names name
-  pub is_distance : distance ≡ distance_to text name
-  pub none_nearer : (other : List ℕ) → Contains names other → distance ≤ distance_to text other
+  pub near : changes_to text name ≡ Some changes
+  pub none_nearer : (other : List ℕ) (far : ℕ) → Contains names other
+      → changes_to text other ≡ Some far → changes ≤ far
 
--- less than half of the longer text is edited
-abbrev pub is_near_in : List ℕ → List ℕ → ℕ → Bool
-is_near_in text name distance = nat_lt (2 * distance) (max (length text) (length name))
-
--- no name is known, or a nearest one isn't near
-abbrev pub NoneIsNear : List ℕ → List (List ℕ) → Type 0
-NoneIsNear text names =
-    (names ≡ []) ⊎ ((name : List ℕ) × (distance : ℕ) × IsNearestTo text names name distance
-    × (is_near_in text name distance ≡ false))
-
--- a name that is near, and none of them is nearer
-pub record IsNearName (text : List ℕ) (names : List (List ℕ)) (name : List ℕ) : Type 0 where
-  pub distance : ℕ
-  pub nearest : IsNearestTo text names name distance
-  pub near : is_near_in text name distance ≡ true
-
--- which name is suggested for a text in lowercase
-abbrev pub IsSuggestedFor : List ℕ → List (List ℕ) → Option (List ℕ) → Type 0
-IsSuggestedFor text names None = NoneIsNear text names
-IsSuggestedFor text names (Some name) = IsNearName text names name
-
--- the same for a text in whichever case
+-- which name is suggested: the nearest of those that are near, if there is one
 abbrev pub IsSuggested : List ℕ → List (List ℕ) → Option (List ℕ) → Type 0
-IsSuggested text names name = IsSuggestedFor (lowered text) names name
+IsSuggested text names None =
+    (name : List ℕ) → Contains names name → changes_to text name ≡ None
+IsSuggested text names (Some name) = (changes : ℕ) × IsNearest text names name changes

@@ -10,6 +10,10 @@ use Rattle.bf_check.specs.declared.fault.TaskFault.{TaskFault}
 use Rattle.bf_check.specs.declared.fault.TaskFault.TheVariants.{UnknownUpstream, UnknownPool, SlotsBeyondPool, BadRule, PullNotSettled, ExpandSource, ExpandRule, BranchMisuse}
 use Rattle.bf_check.specs.Refusals as checking
 use Rattle.bf_findings.specs.declared.form.Form.{Form}
+use Rattle.bf_findings.specs.declared.hint.Hint.{Hint}
+use Rattle.bf_findings.specs.declared.hint.Hint.TheVariants as hint
+use Rattle.bf_cron.specs.declared.field.Field.{Field}
+use Rattle.bf_cron.specs.declared.field.Field.TheVariants.{Minute, Hour, Day, Month, Weekday}
 use Rattle.bf_findings.specs.declared.finding.Fault.{Fault}
 use Rattle.bf_findings.specs.declared.finding.Finding.{Finding}
 use Rattle.bf_findings.specs.declared.finding.Finding.TheVariants as finding
@@ -22,16 +26,30 @@ use Rattle.bf_findings.specs.Forms.{form_text}
 abbrev pub meant_text : List ℕ → List ℕ
 meant_text name = codes "did you mean \"" ++ name ++ codes "\"?"
 
--- a suggested name, or what may stand there
-abbrev pub ending : Form → Option (List ℕ) → List ℕ
+-- what a field of a schedule may be, behind its name
+abbrev pub field_words : Field → List ℕ
+field_words Minute = codes "minute: has to be *, */n, or numbers from 0 to 59, each alone or as a-b or a-b/n, with commas between"
+field_words Hour = codes "hour: has to be *, */n, or numbers from 0 to 23, each alone or as a-b or a-b/n, with commas between"
+field_words Day = codes "day of the month: has to be *, */n, or numbers from 1 to 31, each alone or as a-b or a-b/n, with commas between"
+field_words Month = codes "month: has to be *, */n, or numbers from 1 to 12 or names as jan, each alone or as a-b or a-b/n, with commas between"
+field_words Weekday = codes "weekday: has to be *, */n, or numbers from 0 to 7 or names as mon, each alone or as a-b or a-b/n, with commas between"
+
+-- what is told in place of what may stand there
+abbrev pub hint_text : Hint → List ℕ
+hint_text (hint.Meant name) = meant_text name
+hint_text hint.NoZoneFile = codes "--zone-file PATH is missing"
+hint_text (hint.BadField field) = field_words field
+
+-- a hint, or what may stand there
+abbrev pub ending : Form → Option Hint → List ℕ
 ending form None = form_text form
-ending form (Some name) = meant_text name
+ending form (Some hint) = hint_text hint
 
 -- where it is, what stands there, and what may
 abbrev pub fault_text : Fault → List ℕ
 fault_text fault =
     (place_text fault.place ++ (codes ": " ++ (fault.stands ++ codes ": ")))
-    ++ ending fault.form fault.suggestion
+    ++ ending fault.form fault.hint
 
 -- ---- why a file is refused in which nothing else is found
 
@@ -72,3 +90,4 @@ finding_text (finding.NotJson line column) =
     codes "bytes: not JSON: line " ++ decimal line ++ codes ", column " ++ decimal column
 finding_text (finding.Fault fault) = fault_text fault
 finding_text (finding.Refused refusal) = refusal_text refusal
+finding_text finding.More = codes "and more"

@@ -1,3 +1,2 @@
 pub mod Nearest
-pub mod Faults
 pub mod Findings

@@ -1,5 +1,6 @@
 //! What is found wrong.
 use crate::form::Form;
+use crate::hint::Hint;
 use crate::place::DocumentPlace;
 use crate::refusal::Refusal;
 use bf_value::Text;
@@ -13,24 +14,8 @@ pub struct Fault {
     pub form: Form,
     /// What stands there, as a finding shows it.
     pub stands: Text,
-    /// A known name that may have been meant; None where none is near.
-    pub suggestion: Option<Text>,
-}
-
-/// A suggested name, which displays as a question: `did you mean "rule"?`.
-#[derive(Clone, Copy)]
-struct Meant<'a>(&'a Text);
-
-impl fmt::Display for Meant<'_> {
-    ghost use Rattle.std.specs.Prelude.{Some};
-    ghost use Rattle.bf_findings.specs.Texts.{meant_text};
-
-    ghost output = { λ meant. Some (meant_text meant.0.now) };
-
-    /// Writes the question that suggests the name, such as `did you mean "rule"?`.
-    fn fmt<W: fmt::Write>(&self, f: &mut fmt::Formatter<W>) -> fmt::Result {
-        write!(f, "did you mean \"{}\"?", self.0)
-    }
+    /// What is told in place of what may stand there, if anything.
+    pub hint: Option<Hint>,
 }
 
 /// Something that is wrong with a graph file.
@@ -39,8 +24,10 @@ pub enum Finding {
     /// The bytes are no JSON in UTF-8; the line and the column where `serde_json` stopped reading.
     NotJson(usize, usize),
     Fault(Fault),
-    /// Each place by itself is right, but the file as a whole is refused for this.
+    /// No place by itself shows it, but the file as a whole is refused for this.
     Refused(Refusal),
+    /// Something is wrong at other places, too.
+    More,
 }
 
 impl fmt::Display for Fault {
@@ -49,11 +36,11 @@ impl fmt::Display for Fault {
 
     ghost output = { λ fault. Some (fault_text fault) };
 
-    /// Writes the place, what stands there, and the suggested name or else what may stand there.
+    /// Writes the place, what stands there, and a hint or else what may stand there.
     fn fmt<W: fmt::Write>(&self, f: &mut fmt::Formatter<W>) -> fmt::Result {
         write!(f, "{}: {}: ", self.place, self.stands)?;
-        match &self.suggestion {
-            Some(name) => write!(f, "{}", Meant(name)),
+        match &self.hint {
+            Some(hint) => write!(f, "{hint}"),
             None => write!(f, "{}", self.form),
         }
     }
@@ -73,6 +60,7 @@ impl fmt::Display for Finding {
             }
             Finding::Fault(fault) => write!(f, "{fault}"),
             Finding::Refused(refusal) => write!(f, "{refusal}"),
+            Finding::More => write!(f, "and more"),
         }
     }
 }

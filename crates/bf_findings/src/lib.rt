@@ -5,11 +5,13 @@
 //! says what stands there, what may, and which known name is nearest. It gives nothing exactly where the file is accepted.
 #![tactic(auto)]
 
+mod common;
 mod document;
 mod faults;
 mod finding;
 mod fitting;
 mod form;
+mod hint;
 mod judging;
 mod laws;
 mod listing;
@@ -22,6 +24,7 @@ mod shown;
 
 pub use finding::{Fault, Finding};
 pub use form::Form;
+pub use hint::Hint;
 pub use laws::each_place_is_listed;
 pub use listing::findings;
 pub use place::{DocumentPlace, WordKey};

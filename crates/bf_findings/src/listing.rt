@@ -1,16 +1,19 @@
 //! All that is wrong with a graph file.
-ghost use Rattle.std.specs.Prelude.{◌≡◌, ◌<◌, ◌≤◌, ℕ, List, length, map, Some, option_map, All, IfOk};
+ghost use Rattle.std.specs.Prelude.{◌≡◌, ◌≤◌, ℕ, List, length, Some, option_map, All, IfOk};
+ghost use Rattle.std.specs.List.{list_any};
 ghost use Rattle.serde_json.specs.View.{view};
 ghost use Rattle.bf_read.specs.Reading.{data_in};
-ghost use Rattle.bf_findings.specs.declared.finding.Finding.TheVariants.{Fault as FaultFound};
-ghost use Rattle.bf_findings.specs.Findings.{AreFindings, IsFinding, TellsAll};
+ghost use Rattle.bf_findings.specs.Findings.{AreFindings, AreTold, IsFinding, IsToldOfData, IsToldOfFile, findings_of};
+ghost use Rattle.bf_findings.specs.Findings as spec;
 ghost use Rattle.bf_findings.specs.inner.Findings.{IsRefusalIfAny};
 
+use crate::faults::MOST_FAULTS;
 use crate::finding::{Fault, Finding};
 use crate::judging::Document;
+use crate::place::DocumentPlace;
 use crate::refusal::Refusal;
 use bf_check::{CheckFault, check};
-use bf_read::{MOST_BYTES, ReadFault, read_graph};
+use bf_read::{MOST_BYTES, Path, ReadFault, TaskKey, read_graph};
 use bf_value::OutOfMemory;
 use serde_json::Value;
 use std::alloc::Global;
@@ -35,11 +38,18 @@ fn refusal(
     }
 }
 
-/// Turns the faults into findings, in order.
+/// Turns the faults into findings, in order: the first hundred, and that there are more.
 fn as_findings(alloc: Global, faults: Vec<Fault>) -> Result<Vec<Finding>, OutOfMemory>
-    ensures { IfOk result (λ v. v.items ≡ map FaultFound faults.items) }
+    ensures { IfOk result (λ v. v.items ≡ findings_of faults.items) }
 {
-    Ok(faults.into_iter().map(Finding::Fault).collect(alloc)?)
+    let are_more = faults.len() > MOST_FAULTS;
+    let mut faults = faults;
+    faults.truncate(MOST_FAULTS);
+    let mut found: Vec<Finding> = faults.into_iter().map(Finding::Fault).collect(alloc)?;
+    if are_more {
+        found.push(Finding::More)?;
+    }
+    Ok(found)
 }
 
 /// Finds what is wrong at the places of a document, from the top down, up to the hundredth fault. `zone_file` has the
@@ -51,9 +61,9 @@ fn document_findings(
 ) -> Result<Vec<Finding>, OutOfMemory>
     ensures each { IfOk result (λ v. (graph : List ℕ) → data_in graph ≡ Some (view value.now)
         → All (IsFinding graph (option_map (λ s. s.now) zone_file.entry)) v.items) }
-    ensures few { IfOk result (λ v. length v.items ≤ 100) }
-    ensures all { IfOk result (λ v. (graph : List ℕ) → data_in graph ≡ Some (view value.now)
-        → TellsAll graph (option_map (λ s. s.now) zone_file.entry) v.items) }
+    ensures few { IfOk result (λ v. length v.items ≤ 101) }
+    ensures told { IfOk result (λ v. IsToldOfData (option_map (λ s. s.now) zone_file.entry)
+        (Some (view value.now)) v.items) }
 {
     let document = Document { value, zone_file };
     let faults = document.faults(alloc)?;
@@ -71,9 +81,9 @@ fn findings_in_bytes(
 ) -> Result<Vec<Finding>, OutOfMemory>
     ensures each { IfOk result (λ v. All
         (IsFinding graph.now (option_map (λ s. s.now) zone_file.entry)) v.items) }
-    ensures few { IfOk result (λ v. length v.items ≤ 100) }
-    ensures all { IfOk result (λ v. TellsAll graph.now (option_map (λ s. s.now) zone_file.entry)
-        v.items) }
+    ensures few { IfOk result (λ v. length v.items ≤ 101) }
+    ensures told { IfOk result (λ v. IsToldOfFile graph.now
+        (option_map (λ s. s.now) zone_file.entry) v.items) }
 {
     if graph.len() > MOST_BYTES {
         return Ok(Vec::new(alloc));
@@ -89,8 +99,71 @@ fn findings_in_bytes(
     }
 }
 
-/// Finds what is wrong in a graph file that is refused: the faults at its places, or `refusal` where there are none.
-#[tactic(auto, using(crate::proofs::PlaceLemmas::still_told))]
+/// Answers whether a place is the command of task `n`, counted from 0, or a word of it.
+fn is_in_command(place: &DocumentPlace, n: u32) -> bool
+    ensures { result ≡ spec.is_in_command n place.now }
+{
+    match place {
+        DocumentPlace::TaskKey(m, TaskKey::Command) | DocumentPlace::Word(m, _) => {
+            *m == n as usize
+        }
+        _ => false,
+    }
+}
+
+/// Answers whether a finding is of the command of task `n`, counted from 0.
+fn is_of_command(finding: &Finding, n: u32) -> bool
+    ensures { result ≡ spec.is_of_command n finding.now }
+{
+    match finding {
+        Finding::Fault(fault) => is_in_command(&fault.place, n),
+        _ => false,
+    }
+}
+
+/// Answers whether one of these findings is of the command of task `n`, counted from 0.
+fn tells_command(found: &[Finding], n: u32) -> bool
+    ensures { result ≡ list_any (spec.is_of_command n) found.now }
+{
+    found.iter().any(|finding| is_of_command(finding, n))
+}
+
+/// Answers whether the refusal is for a limit that none of these findings shows: too many edges, or too many pulls of a
+/// command.
+fn is_untold_limit(refusal: &Refusal, found: &[Finding]) -> bool
+    ensures { result ≡ spec.is_untold_limit refusal.now found.now }
+{
+    match refusal {
+        Refusal::Read(ReadFault::LimitPassed(Path::TaskKey(_, TaskKey::Upstream))) => true,
+        Refusal::Read(ReadFault::LimitPassed(Path::TaskKey(n, TaskKey::Command))) => {
+            !tells_command(found, *n)
+        }
+        _ => false,
+    }
+}
+
+/// Answers whether a refusal is told behind these findings: there are none, or less than a hundred that don't show the
+/// limit for which the file is refused.
+fn tells_refusal(refusal: &Refusal, found: &[Finding]) -> bool
+    ensures { result ≡ spec.tells_refusal refusal.now found.now }
+{
+    found.is_empty() || found.len() < MOST_FAULTS && is_untold_limit(refusal, found)
+}
+
+/// Adds the refusal behind the findings where it is told, too.
+fn with_refusal(found: Vec<Finding>, refusal: Refusal) -> Result<Vec<Finding>, OutOfMemory>
+    ensures { IfOk result (λ v. v.items ≡ spec.with_refusal refusal found.items) }
+{
+    let mut found = found;
+    if tells_refusal(&refusal, found.as_slice()) {
+        found.push(Finding::Refused(refusal))?;
+    }
+    Ok(found)
+}
+
+/// Finds what is wrong in a graph file that is refused: the faults at its places, and `refusal` where there are none or
+/// it is for a limit that they don't show.
+#[tactic(auto, using(crate::proofs::Told::are_told))]
 fn findings_of_refused(
     alloc: Global,
     graph: &[u8],
@@ -98,23 +171,16 @@ fn findings_of_refused(
     refusal: Refusal,
 ) -> Result<Vec<Finding>, OutOfMemory>
     requires { IsRefusalIfAny graph.now (option_map (λ s. s.now) zone_file) (Some refusal) }
-    ensures each { IfOk result (λ v. All
-        (IsFinding graph.now (option_map (λ s. s.now) zone_file.entry)) v.items) }
-    ensures some { IfOk result (λ v. 0 < length v.items) }
-    ensures few { IfOk result (λ v. length v.items ≤ 100) }
-    ensures all { IfOk result (λ v. TellsAll graph.now (option_map (λ s. s.now) zone_file.entry)
+    ensures { IfOk result (λ v. AreTold graph.now (option_map (λ s. s.now) zone_file.entry)
         v.items) }
 {
-    let mut found = findings_in_bytes(alloc, graph, zone_file)?;
-    if found.is_empty() {
-        found.push(Finding::Refused(refusal))?;
-    }
-    Ok(found)
+    let found = findings_in_bytes(alloc, graph, zone_file)?;
+    with_refusal(found, refusal)
 }
 
 /// Finds all that can be told at once of what is wrong with a graph file, from the top down, up to the hundredth
-/// finding. Empty exactly where the file is accepted. `zone_file` has the bytes for the zone `file`; no other zone
-/// needs them.
+/// finding, behind which `More` says that there are more. Empty exactly where the file is accepted. `zone_file` has the
+/// bytes for the zone `file`; no other zone needs them.
 pub fn findings(
     alloc: Global,
     graph: &[u8],

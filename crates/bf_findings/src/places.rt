@@ -1,10 +1,10 @@
 //! The places of a document.
 ghost use Rattle.std.specs.Prelude.{◌≡◌, ◌++◌, map, OnOk, IfOk};
 ghost use Rattle.serde_json.specs.View.{view, members_view};
-ghost use Rattle.bf_findings.specs.Listed.{graph_key_places, task_key_places, other_keys, pools_of, pools_if_any, other_task_keys, items_in, upstreams, word_keys_of, words, task_places, tasks, places_in};
+ghost use Rattle.bf_findings.specs.Listed.{graph_key_places, task_key_places, other_keys, pools_of, pools_if_any, other_task_keys, items_in, upstreams, word_keys_of, words, task_places, head_places};
 ghost use Rattle.bf_findings.specs.Fitting.{pools_at};
 
-use crate::fitting::{pools_in, tasks_in};
+use crate::fitting::pools_in;
 use crate::place::{DocumentPlace, WORD_KEYS};
 use bf_read::{GRAPH_KEYS, TASK_KEYS, TaskKey, is_graph_key, is_task_key};
 use bf_value::{OutOfMemory, Text};
@@ -171,23 +171,25 @@ fn add_task(
     add_words(places, n, items_under(task, TaskKey::Command))
 }
 
-/// Adds the places of each task and of all that it holds.
-fn add_tasks(
+/// Gives the places of task `n` and of all that it holds.
+pub(crate) fn places_of_task(
     alloc: Global,
-    places: &mut Vec<DocumentPlace>,
-    items: &[Value],
-) -> Result<(), OutOfMemory>
-    ensures { OnOk result (places.new.items ≡ places.old.items ++ tasks 0 (map view items.now)) }
+    n: usize,
+    task: &Value,
+) -> Result<Vec<DocumentPlace>, OutOfMemory>
+    ensures { IfOk result (λ v. v.items ≡ task_places n (view task.now)) }
 {
-    for (n, task) in items.iter().enumerate() {
-        add_task(alloc, places, n, task)?;
-    }
-    Ok(())
+    let mut places = Vec::new(alloc);
+    add_task(alloc, &mut places, n, task)?;
+    Ok(places)
 }
 
-/// Gives the places of a document to look at, from the top down; only the top where it is no object.
-pub(crate) fn places_of(alloc: Global, document: &Value) -> Result<Vec<DocumentPlace>, OutOfMemory>
-    ensures { IfOk result (λ v. v.items ≡ places_in (view document.now)) }
+/// Gives the places of a document before its tasks, from the top down; only the top where it is no object.
+pub(crate) fn places_before_tasks(
+    alloc: Global,
+    document: &Value,
+) -> Result<Vec<DocumentPlace>, OutOfMemory>
+    ensures { IfOk result (λ v. v.items ≡ head_places (view document.now)) }
 {
     let mut places = Vec::new(alloc);
     places.push(DocumentPlace::Top)?;
@@ -197,6 +199,5 @@ pub(crate) fn places_of(alloc: Global, document: &Value) -> Result<Vec<DocumentP
     add_graph_keys(&mut places)?;
     add_other_keys(alloc, &mut places, members)?;
     add_pools(alloc, &mut places, document)?;
-    add_tasks(alloc, &mut places, tasks_in(document))?;
     Ok(places)
 }
