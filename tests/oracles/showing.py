@@ -273,11 +273,9 @@ def json_lines(report_text):
             for instance in instances:
                 members = [("run", run.start), ("end", run.end), ("run_state", run.state), ("task", name)]
                 members = [f"{json.dumps(key)}:{json.dumps(text)}" for key, text in members]
-                if instance.tries:
-                    members.append(f'"index":{instance.index}')
+                members.append(f'"index":{instance.index}')
                 members.append(f'"state":"{STATES[instance.state]}"')
-                if instance.tries:
-                    members.append(f'"tries":{instance.tries}')
+                members.append(f'"tries":{instance.tries}')
                 if instance.value != "-":
                     members.append(f'"value":{instance.value}')
                 if instance.item is not None:

@@ -43,11 +43,11 @@ answers 0 show --json "$report" <<LINES
 {$first,"task":"m","index":0,"state":"success","tries":1,"value":"é\n","item":1,"pulls":{"none":null}}
 {$first,"task":"m","index":1,"state":"failed","tries":3,"item":"two","pulls":{"none":null}}
 {$first,"task":"m","index":2,"state":"skipped","tries":1,"item":null,"pulls":{"none":null}}
-{$first,"task":"sum","state":"upstream_failed"}
-{$first,"task":"last","state":"no_status"}
+{$first,"task":"sum","index":-1,"state":"upstream_failed","tries":0}
+{$first,"task":"last","index":-1,"state":"no_status","tries":0}
 {$second,"task":"src","index":-1,"state":"success","tries":1,"value":[]}
 {$second,"task":"none","index":-1,"state":"success","tries":1}
-{$second,"task":"m","state":"skipped"}
+{$second,"task":"m","index":-1,"state":"skipped","tries":0}
 {$second,"task":"sum","index":-1,"state":"success","tries":1,"value":["a",1],"pulls":{"m":[],"src":[]}}
 {$second,"task":"last","index":-1,"state":"skipped","tries":1}
 LINES

@@ -76,7 +76,7 @@ for line in "a -1 success 1 $(printf '[%.0s' {1..30000})" 'a 9999999999999999999
         is_same "${line:0:40} $words" '2 refused 30 bad line: 3 refused 30 bad line: 3' "$status $(< "$work/said") $(< "$work/wanted")"
     done
 done
-printf '%s\n' '@backfill 2 d' '@run 2024-01-01T00:00:00Z 2024-01-02T00:00:00Z success' 'a -1 success 1 "é"' 'b -1 skipped 1 -' '@end 1' > "$work/good"
+printf '%s\n' '@backfill 2 d' '@run 2024-01-01T00:00:00Z 2024-01-02T00:00:00Z success' 'a -1 success 1 "é"' 'b -1 skipped 0 -' '@end 1' > "$work/good"
 is_same 'the rows under an ASCII locale' "$("$program" show --json "$work/good")" "$(LC_ALL=C PYTHONUTF8=0 PYTHONIOENCODING=ascii python3 "$rows_of" "$work/good")"
 
 # A reader that has enough, and what can't be read or written.

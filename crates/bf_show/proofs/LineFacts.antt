@@ -20,7 +20,7 @@ use Rattle.bf_report.specs.Report.{state_word, run_state_word_of}
 use Rattle.bf_report.proofs.ReportFacts.{numbered_more}
 use Rattle.bf_show.specs.declared.key.Key.{Key}
 use Rattle.bf_show.specs.declared.key.Key.TheVariants.{End, RunState, Task, Index, State, Tries, Value, Item, Pulls}
-use Rattle.bf_show.specs.JsonLines.{line, run_members, value_members, pulled_data, pull_members, pulls_members, ended_members, instance_members, untried_members, mapped_lines, tasks_lines}
+use Rattle.bf_show.specs.JsonLines.{line, run_members, value_members, pulled_data, pull_members, pulls_members, ended_members, instance_members, no_index, untried_members, mapped_lines, tasks_lines}
 use Rattle.bf_show.specs.Pieces.{key_word, key_text, run_start}
 use Rattle.bf_show.specs.inner.Pieces.{line_end}
 
@@ -115,10 +115,32 @@ pub line_ends : codes "}\n" ≡ line_end no_members
 unfolding line_end
 line_ends = refl
 
-pub untried_more : (t : List ℕ) (run : RunReport) (id word : List ℕ) → (((t ++ (run_start run ++ (key_text Task ++ quoted id))) ++ key_text State) ++ quoted word) ++ codes "}\n" ≡ t ++ line (untried_members run id word)
+-- what a line begins with, and a map index, before these members
+pub index_more : (t : List ℕ) (run : RunReport) (id : List ℕ) (index : Num) (ms : Members) → ((t ++ (run_start run ++ (key_text Task ++ quoted id))) ++ (key_text Index ++ number_text index)) ++ line_end ms ≡ t ++ line (run_members run (member (codes "task") (string id) (member (codes "index") (number index) ms)))
+index_more t run id index ms =
+    ap (λ s. s ++ line_end ms) (sym (append_assoc (t ++ (run_start run ++ (key_text Task ++ quoted id))) (key_text Index) (number_text index)))
+    ∙ member_more (t ++ (run_start run ++ (key_text Task ++ quoted id))) Index (number index) ms
+    ∙ task_more t run id (member (codes "index") (number index) ms)
+
+no_tries : codes "0}\n" ≡ number_text (unsigned 0) ++ line_end no_members
+unfolding line_end
+no_tries = ap (λ s. s ++ codes "}\n") (sym (decimal_digit 0 (omega arith)))
+
+-- no tries, and the end of the line
+untried_end : (t : List ℕ) → (t ++ key_text Tries) ++ codes "0}\n" ≡ t ++ line_end (member (codes "tries") (number (unsigned 0)) no_members)
+untried_end t =
+    ap (λ s. (t ++ key_text Tries) ++ s) no_tries ∙ sym (append_assoc (t ++ key_text Tries) (number_text (unsigned 0)) (line_end no_members))
+    ∙ member_more t Tries (number (unsigned 0)) no_members
+
+pub untried_more : (t : List ℕ) (run : RunReport) (id word : List ℕ) → (((((t ++ (run_start run ++ (key_text Task ++ quoted id))) ++ (key_text Index ++ number_text no_index)) ++ key_text State) ++ quoted word) ++ key_text Tries) ++ codes "0}\n" ≡ t ++ line (untried_members run id word)
 untried_more t run id word =
-    ap (λ s. (((t ++ (run_start run ++ (key_text Task ++ quoted id))) ++ key_text State) ++ quoted word) ++ s) line_ends
-    ∙ member_more (t ++ (run_start run ++ (key_text Task ++ quoted id))) State (string word) no_members ∙ task_more t run id (member (codes "state") (string word) no_members)
+    let start = (t ++ (run_start run ++ (key_text Task ++ quoted id))) ++ (key_text Index ++ number_text no_index) in
+    let tries = member (codes "tries") (number (unsigned 0)) no_members in
+    untried_end ((start ++ key_text State) ++ quoted word) ∙ member_more start State (string word) tries
+    ∙ index_more t run id no_index (member (codes "state") (string word) tries)
+
+pub only_more : (t : List ℕ) (run : RunReport) (id : List ℕ) (instance : InstanceReport) → ((t ++ (run_start run ++ (key_text Task ++ quoted id))) ++ (key_text Index ++ number_text no_index)) ++ line_end (ended_members instance) ≡ t ++ line (instance_members run id no_index instance)
+only_more t run id instance = index_more t run id no_index (ended_members instance)
 
 pub instance_more : (t : List ℕ) (run : RunReport) (id : List ℕ) (index : Num) (instance : InstanceReport) → (((t ++ (run_start run ++ (key_text Task ++ quoted id))) ++ key_text Index) ++ number_text index) ++ line_end (ended_members instance) ≡ t ++ line (instance_members run id index instance)
 instance_more t run id index instance =

@@ -72,4 +72,7 @@ instance_read run id index instance low few s shallow =
     read_back (object (instance_members run id (unsigned index) instance)) (tt, (tt, (tt, (tt, (IsNumber-decimal index low, of_ended instance few s))))) shallow
 
 pub untried_read : (run : RunReport) (id state : List ℕ) → document (compact_text (object (untried_members run id state))) ≡ Some (outline (object (untried_members run id state)))
-untried_read run id state = read_back (object (untried_members run id state)) (tt, (tt, (tt, (tt, (tt, tt))))) (omega arith)
+untried_read run id state =
+    read_back (object (untried_members run id state))
+    (tt, (tt, (tt, (tt, (IsNumber-signed_decimal (negsuc 0) (omega arith), (tt, (IsNumber-decimal 0 (omega arith), tt)))))))
+    (omega arith)

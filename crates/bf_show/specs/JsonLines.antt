@@ -61,11 +61,16 @@ instance_members run id index instance =
     run_members run (member (codes "task") (string id)
     (member (codes "index") (number index) (ended_members instance)))
 
+-- of what isn't expanded
+abbrev pub no_index : Num
+no_index = negative (negsuc 0)
+
 -- a task that was decided without a try
 abbrev pub untried_members : RunReport → List ℕ → List ℕ → Members
 untried_members run id state =
-    run_members run (member (codes "task") (string id)
-    (member (codes "state") (string state) no_members))
+    run_members run (member (codes "task") (string id) (member (codes "index") (number no_index)
+    (member (codes "state") (string state)
+    (member (codes "tries") (number (unsigned 0)) no_members))))
 
 -- the instances of an expanded task, by map index from 0
 abbrev pub mapped_lines : RunReport → List ℕ → List InstanceReport → List ℕ
@@ -73,14 +78,14 @@ mapped_lines run id instances =
     flat_map (λ pair. line (instance_members run id (unsigned pair.0) pair.1))
     (enumerate_from 0 instances)
 
--- a task in a run; one that isn't expanded has the map index -1
+-- a task in a run
 abbrev pub task_lines : RunReport → List ℕ → TaskReport → List ℕ
 task_lines run id TaskReport.NoStatus = line (untried_members run id (codes "no_status"))
 task_lines run id TaskReport.Skipped = line (untried_members run id (codes "skipped"))
 task_lines run id TaskReport.UpstreamFailed =
     line (untried_members run id (codes "upstream_failed"))
 task_lines run id (TaskReport.Ran instance) =
-    line (instance_members run id (negative (negsuc 0)) instance)
+    line (instance_members run id no_index instance)
 task_lines run id (TaskReport.Mapped instances) = mapped_lines run id instances
 
 -- these tasks of a run, each under its id

@@ -4,7 +4,7 @@
 //!
 //! ```text
 //! {"run":"2024-01-01T00:00:00Z","end":"2024-01-02T00:00:00Z","run_state":"failed","task":"m","index":0,"state":"success","tries":2,"value":3,"item":[3],"pulls":{"src":[[3]]}}
-//! {"run":"2024-01-01T00:00:00Z","end":"2024-01-02T00:00:00Z","run_state":"failed","task":"sum","state":"upstream_failed"}
+//! {"run":"2024-01-01T00:00:00Z","end":"2024-01-02T00:00:00Z","run_state":"failed","task":"sum","index":-1,"state":"upstream_failed","tries":0}
 //! ```
 #![tactic(auto)]
 

@@ -1,11 +1,12 @@
 //! The lines of a report, each added behind a text.
-ghost use Rattle.std.specs.Prelude.{◌≡◌, ◌++◌, ℕ, List, IfOk, OnOk, string_bytes, negsuc};
+ghost use Rattle.std.specs.Prelude.{◌≡◌, ◌++◌, ℕ, List, IfOk, OnOk, string_bytes};
 ghost use Rattle.std.specs.List.{flat_map, zip};
 ghost use Rattle.json.specs.Print.{quoted};
-ghost use Rattle.serde_json.specs.Data.{unsigned, negative};
+ghost use Rattle.serde_json.specs.Data.{unsigned};
+ghost use Rattle.serde_json.specs.Written.{number_text};
 ghost use Rattle.bf_moment.specs.Moment.{moment_text};
 ghost use Rattle.bf_report.specs.Report.{run_state_word_of};
-ghost use Rattle.bf_show.specs.JsonLines.{instance_members, untried_members, line, mapped_lines, task_lines, tasks_lines, run_lines, json_lines};
+ghost use Rattle.bf_show.specs.JsonLines.{instance_members, untried_members, line, no_index, mapped_lines, task_lines, tasks_lines, run_lines, json_lines};
 ghost use Rattle.bf_show.specs.Pieces.{key_text, run_start};
 
 use crate::key::{Key, push_key};
@@ -69,6 +70,19 @@ impl RunLines<'_> {
         push_string(alloc, text, id)
     }
 
+    /// Adds the beginning of a line of a task that has one line in the run, with -1 as its map index.
+    fn push_only_start(&self, alloc: Global, text: &mut String, id: &str) -> Result<(), OutOfMemory>
+        ensures { OnOk result (string_bytes text.new
+            ≡ (string_bytes text.old ++ (run_start self.now.run.now
+            ++ (key_text Key.Task ++ quoted id.now)))
+            ++ (key_text Key.Index ++ number_text no_index)) }
+    {
+        self.push_start(alloc, text, id)?;
+        push_key(text, Key::Index)?;
+        text.push_str("-1")?;
+        Ok(())
+    }
+
     /// Adds the line of a task that didn't run, with its line feed. `state` is a JSON string, in its quotes.
     fn push_untried(
         &self,
@@ -80,10 +94,11 @@ impl RunLines<'_> {
         ensures { OnOk result ((word : List ℕ) → state.now ≡ quoted word → string_bytes text.new
             ≡ string_bytes text.old ++ line (untried_members self.now.run.now id.now word)) }
     {
-        self.push_start(alloc, text, id)?;
+        self.push_only_start(alloc, text, id)?;
         push_key(text, Key::State)?;
         text.push_str(state)?;
-        text.push_str("}\n")?;
+        push_key(text, Key::Tries)?;
+        text.push_str("0}\n")?;
         Ok(())
     }
 
@@ -97,11 +112,9 @@ impl RunLines<'_> {
         instance: &InstanceReport,
     ) -> Result<(), OutOfMemory>
         ensures { OnOk result (string_bytes text.new ≡ string_bytes text.old
-            ++ line (instance_members self.now.run.now id.now (negative (negsuc 0)) instance.now)) }
+            ++ line (instance_members self.now.run.now id.now no_index instance.now)) }
     {
-        self.push_start(alloc, text, id)?;
-        push_key(text, Key::Index)?;
-        text.push_str("-1")?;
+        self.push_only_start(alloc, text, id)?;
         push_ended(alloc, text, instance)
     }
 
