@@ -9,9 +9,9 @@ use Rattle.bf_plan.specs.Sound.{IsSound}
 use Rattle.bf_report.specs.declared.report.TaskReport.{TaskReport}
 use Rattle.bf_reason.specs.declared.cause.StateCause.{StateCause}
 use Rattle.bf_reason.specs.Settled.{value_among}
-use Rattle.bf_why.specs.Since.{failures, has_instance_of, skips}
+use Rattle.bf_why.specs.Since.{failures, has_instance_of}
 use Rattle.bf_roots.specs.declared.step.WalkStep.{WalkStep}
-use Rattle.bf_roots.specs.Onward.{tasks_of_option_of, cause_among, goes_on_in, next_tasks_of, onward_among, onward_of, onward_if_told, skips_for_skipped_in, step_by}
+use Rattle.bf_roots.specs.Onward.{tasks_of_option_of, cause_among, goes_on_in, next_tasks_of, onward_among, onward_of, onward_if_told, skipping_states_of, step_by}
 
 few_kept : (p : ℕ → Bool) (tasks : List ℕ) → length tasks ≤ 20_000 → length (filter p tasks) ≤ 20_000
 few_kept p tasks few = omega (arith, few, length-filter p tasks, count_by-le-length p tasks)
@@ -30,7 +30,7 @@ module _ (dag : Dag) (sound : IsSound dag) where
   few_tasks tasks task StateCause.BranchIsBlocked = few_kept (λ u. branch_is dag is_blocked_in u (Some (value_among tasks u))) (task_of dag task).upstreams (sound.few_upstreams task)
   few_tasks tasks task StateCause.UpstreamIsBlocked = few_kept (λ u. is_blocked_in (value_among tasks u)) (task_of dag task).upstreams (sound.few_upstreams task)
   few_tasks tasks task StateCause.RuleFails = few_kept (has_instance_of tasks failures) (task_of dag task).upstreams (sound.few_upstreams task)
-  few_tasks tasks task StateCause.RuleSkips = few_if (skips_for_skipped_in (task_of dag task).rule) (filter (has_instance_of tasks skips) (task_of dag task).upstreams) (few_kept (has_instance_of tasks skips) (task_of dag task).upstreams (sound.few_upstreams task))
+  few_tasks tasks task StateCause.RuleSkips = few_kept (has_instance_of tasks (skipping_states_of (task_of dag task).rule)) (task_of dag task).upstreams (sound.few_upstreams task)
   few_tasks tasks task StateCause.PastHasNotPassed = omega arith
   few_tasks tasks task StateCause.ItemsAreMissing = few_alone (task_of dag task).expand
   few_tasks tasks task StateCause.HasNoItems = few_alone (task_of dag task).expand

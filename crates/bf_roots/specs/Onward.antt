@@ -1,7 +1,7 @@
 -- What began at a place, and where the walk goes on from there.
 use Rattle.std.specs.Prelude.{ℕ, ◌-◌, ◌&&◌, not, Bool, true, false, if◌then◌else◌, List, [], ◌∷◌, filter, map, Option, None, Some, is_none, is_some, slice_get}
 use Rattle.std.specs.Char.{is_ascii_digit}
-use Rattle.bf_core.specs.Terms.{Dag, Rule, Task, task_of}
+use Rattle.bf_core.specs.Terms.{Dag, Rule, task_of}
 use Rattle.bf_core.specs.Deciding.{branch_is, branch_skips, is_blocked_in}
 use Rattle.bf_report.specs.declared.report.TaskReport.{TaskReport}
 use Rattle.bf_report.specs.declared.report.Report.{Report}
@@ -12,6 +12,7 @@ use Rattle.bf_reason.specs.Reasons.{reason}
 use Rattle.bf_reason.specs.Runs.{tasks_in, tasks_before}
 use Rattle.bf_reason.specs.Settled.{before_among, seen_among, value_among}
 use Rattle.bf_why.specs.Since.{failures, has_instance_of, skips}
+use Rattle.bf_why.specs.declared.states.States.{States}
 use Rattle.bf_roots.specs.declared.step.Began.{Began}
 use Rattle.bf_roots.specs.declared.step.Root.{Root}
 use Rattle.bf_roots.specs.declared.step.WalkStep.{WalkStep}
@@ -50,21 +51,20 @@ roots_at report step = roots_among (tasks_in report step.run) step
 
 -- ---- where it goes on
 
--- the rules by which a skipped upstream skips
-abbrev pub skips_for_skipped_in : Rule → Bool
-skips_for_skipped_in Rule.AllSuccess = true
-skips_for_skipped_in Rule.OneSuccess = true
-skips_for_skipped_in Rule.NoneFailedMinOneSuccess = true
-skips_for_skipped_in Rule.NoneSkipped = true
-skips_for_skipped_in rule = false
+-- the states of upstreams for which a rule skips; those of a success lead no further
+abbrev pub skipping_states_of : Rule → States
+skipping_states_of Rule.AllSuccess = skips
+skipping_states_of Rule.AllFailed = skips
+skipping_states_of Rule.AllSkipped = failures
+skipping_states_of Rule.OneSuccess = skips
+skipping_states_of Rule.OneDone = record skips { upstream_failed = true }
+skipping_states_of Rule.NoneFailedMinOneSuccess = skips
+skipping_states_of Rule.NoneSkipped = skips
+skipping_states_of rule = record skips { skipped = false }
 
 abbrev pub tasks_of_option_of : Option ℕ → List ℕ
 tasks_of_option_of None = []
 tasks_of_option_of (Some task) = task ∷ []
-
-abbrev pub skipped_among : List TaskReport → Task → List ℕ
-skipped_among tasks task =
-    if skips_for_skipped_in task.rule then filter (has_instance_of tasks skips) task.upstreams else []
 
 -- the tasks that made it so, by the cause
 abbrev pub next_tasks_of : Dag → List TaskReport → ℕ → StateCause → List ℕ
@@ -78,7 +78,9 @@ next_tasks_of dag tasks task StateCause.UpstreamIsBlocked =
     filter (λ u. is_blocked_in (value_among tasks u)) (task_of dag task).upstreams
 next_tasks_of dag tasks task StateCause.RuleFails =
     filter (has_instance_of tasks failures) (task_of dag task).upstreams
-next_tasks_of dag tasks task StateCause.RuleSkips = skipped_among tasks (task_of dag task)
+next_tasks_of dag tasks task StateCause.RuleSkips =
+    filter (has_instance_of tasks (skipping_states_of (task_of dag task).rule))
+    (task_of dag task).upstreams
 next_tasks_of dag tasks task StateCause.PastHasNotPassed = task ∷ []
 next_tasks_of dag tasks task StateCause.ItemsAreMissing = tasks_of_option_of (task_of dag task).expand
 next_tasks_of dag tasks task StateCause.HasNoItems = tasks_of_option_of (task_of dag task).expand

@@ -1,11 +1,11 @@
 //! What began at a place, and where the walk goes on from there.
 ghost use Rattle.std.specs.Prelude.{◌≡◌, ◌≤◌, ◌<◌, ◌++◌, IfOk, OnOk, length, map, slice_get};
-ghost use Rattle.bf_roots.specs.Onward.{tasks_of_option_of, began_in, began_by_end_in, began_by_cause_in, goes_on_in, is_tried_in, next_run_of, next_tasks_of, onward_among, onward_of, onward_if_told, roots_among, skipped_among, skips_for_skipped_in, step_by};
+ghost use Rattle.bf_roots.specs.Onward.{tasks_of_option_of, began_in, began_by_end_in, began_by_cause_in, goes_on_in, is_tried_in, next_run_of, next_tasks_of, onward_among, onward_of, onward_if_told, roots_among, skipping_states_of, step_by};
 
 use crate::step::{Began, Root, WalkStep};
 use crate::upstreams::{blocked_branches, blocked_tasks, branches_that_skip, tasks_in_states};
 use bf_core::is_expanded;
-use bf_plan::{Plan, Task};
+use bf_plan::Plan;
 use bf_reason::{Settled, StateCause, cause_at};
 use bf_report::TaskReport;
 use bf_rule::Rule;
@@ -68,14 +68,27 @@ pub(crate) fn add_root(
     Ok(())
 }
 
-/// Whether a trigger rule may skip a task because an upstream is skipped.
-fn skips_for_skipped(rule: Rule) -> bool
-    ensures { result ≡ skips_for_skipped_in rule }
+/// The states of upstreams for which a trigger rule skips a task; none for a rule that doesn't skip, or skips for want
+/// of failures. An upstream that is a success is left out, since nothing began there.
+fn skipping_states(rule: Rule) -> States
+    ensures { result ≡ skipping_states_of rule }
 {
-    matches!(
-        rule,
-        Rule::AllSuccess | Rule::OneSuccess | Rule::NoneFailedMinOneSuccess | Rule::NoneSkipped
-    )
+    match rule {
+        Rule::AllSuccess
+        | Rule::AllFailed
+        | Rule::OneSuccess
+        | Rule::NoneFailedMinOneSuccess
+        | Rule::NoneSkipped => States::SKIPPED,
+        Rule::AllSkipped => States::FAILURES,
+        Rule::OneDone => States {
+            upstream_failed: true,
+            ..States::SKIPPED
+        },
+        Rule::AllDone | Rule::OneFailed | Rule::NoneFailed | Rule::Always => States {
+            skipped: false,
+            ..States::SKIPPED
+        },
+    }
 }
 
 /// The given task in a list of its own; the empty list for None.
@@ -87,22 +100,6 @@ fn list_of_option(alloc: Global, task: Option<u32>) -> Result<Vec<u32>, OutOfMem
         tasks.push(task)?;
     }
     Ok(tasks)
-}
-
-/// The skipped upstreams of a task whose trigger rule may skip it for them, in order. Empty under any other rule.
-fn skipped_upstreams(
-    alloc: Global,
-    settled: &[Settled<'_>],
-    task: &Task,
-) -> Result<Vec<u32>, OutOfMemory>
-    ensures { IfOk result (λ tasks. tasks.items ≡ skipped_among settled.now task.now) }
-{
-    if skips_for_skipped(task.rule) {
-        let upstreams = task.upstreams.as_slice();
-        Ok(tasks_in_states(alloc, settled, upstreams, States::SKIPPED)?)
-    } else {
-        Ok(Vec::new(alloc))
-    }
 }
 
 /// The tasks that made a task's state what it is, by its cause: upstreams, the task itself in the run before, or the
@@ -126,7 +123,10 @@ fn next_tasks(
         StateCause::BranchIsBlocked => Ok(blocked_branches(alloc, dag, settled, upstreams)?),
         StateCause::UpstreamIsBlocked => Ok(blocked_tasks(alloc, settled, upstreams)?),
         StateCause::RuleFails => Ok(tasks_in_states(alloc, settled, upstreams, States::FAILURES)?),
-        StateCause::RuleSkips => skipped_upstreams(alloc, settled, here),
+        StateCause::RuleSkips => {
+            let states = skipping_states(here.rule);
+            Ok(tasks_in_states(alloc, settled, upstreams, states)?)
+        }
         StateCause::PastHasNotPassed => list_of_option(alloc, Some(task)),
         StateCause::ItemsAreMissing | StateCause::HasNoItems => list_of_option(alloc, here.expand),
         StateCause::Waits | StateCause::Runs(_) => Ok(Vec::new(alloc)),
