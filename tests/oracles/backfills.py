@@ -34,6 +34,7 @@ LINES = [
 PIECES = ["[", "]", ",", '"', "\\", "u00e9", "-", "0", ".5", "e1", " ", "\t", "{", "}", ":", "\x01", "null", "a"]
 ITEMS = [None, True, False, 0, -7, 2**63 - 1, -(2**63), "", "x", "-", "two words", "é\n\"", [], [1, ["b", None]], ["-"]]
 WORDS = ["echo", "", "--all", {"context": "logical_date"}, {"context": "map_index"}, {"context": "try_number"}]
+WORDS += ["$BACKFILL_DATE_NODASH", "[AIRFLOW_CTX_EXECUTION_DATE]", "$BACKFILL_TASK_ID, $BACKFILL_INTERVAL_END"]
 
 
 def some(chance, among, *counts):

@@ -4,11 +4,18 @@ ones, but that a report may be of another graph.
 """
 import json
 import re
+import struct
 
 from showing import FAILED, NO_STATUS, SKIPPED, STATES, SUCCESS, UNRUN, UPSTREAM_FAILED, Graph, Report, agrees, counts_of, decide, follows, items_of, ran
 
-# What a terminal doesn't show as itself.
-UNSEEN = [(0x7F, 0x9F), (0xAD, 0xAD), (0x61C, 0x61C), (0x200B, 0x200F), (0x2028, 0x202E), (0x2060, 0x206F), (0xFEFF, 0xFEFF), (0xFFF9, 0xFFFB)]
+# What a terminal doesn't show as itself, but for what stands below U+0020: Unicode 16's controls, format characters, separators of lines and
+# paragraphs, and what is ignored by default.
+UNSEEN = [
+    (0x7F, 0x9F), (0xAD, 0xAD), (0x34F, 0x34F), (0x600, 0x605), (0x61C, 0x61C), (0x6DD, 0x6DD), (0x70F, 0x70F),
+    (0x890, 0x891), (0x8E2, 0x8E2), (0x115F, 0x1160), (0x17B4, 0x17B5), (0x180B, 0x180F), (0x200B, 0x200F), (0x2028, 0x202E),
+    (0x2060, 0x206F), (0x3164, 0x3164), (0xFE00, 0xFE0F), (0xFEFF, 0xFEFF), (0xFFA0, 0xFFA0), (0xFFF0, 0xFFFB), (0x110BD, 0x110BD),
+    (0x110CD, 0x110CD), (0x13430, 0x1343F), (0x1BCA0, 0x1BCA3), (0x1D173, 0x1D17A), (0xE0000, 0xE0FFF),
+]
 RESERVED = set("case coproc do done elif else esac fi for function if in select then time until while".split())
 BARE = re.compile("[A-Za-z0-9_@+:,./-]+")
 
@@ -27,8 +34,16 @@ SINCE = {
     "none_skipped": {"k": (SKIPPED,), "r": "since none is skipped"},
     "always": {"r": "whatever came of them"},
 }
-SKIPS_FOR_SKIPPED = {"all_success", "one_success", "none_failed_min_one_success", "none_skipped"}
+# The states of upstreams for which a rule skips; those of a success lead no further.
+SKIPS_FOR = {"all_success": (SKIPPED,), "all_failed": (SKIPPED,), "all_skipped": BAD, "one_success": (SKIPPED,), "one_done": (UPSTREAM_FAILED, SKIPPED)}
+SKIPS_FOR |= {"none_failed_min_one_success": (SKIPPED,), "none_skipped": (SKIPPED,)}
 CAME = {SUCCESS: "was a success", FAILED: "failed", UPSTREAM_FAILED: "was upstream_failed", SKIPPED: "was skipped", NO_STATUS: "had no status"}
+
+
+def escape(character):
+    """Its UTF-16 units, each as \\u and four digits."""
+    units = character.encode("utf-16-be")
+    return "".join(f"\\u{unit:04x}" for unit, in struct.iter_unpack(">H", units))
 
 
 def is_seen(character):
@@ -52,7 +67,7 @@ def counted(counts):
 def value_text(value, most=4_096):
     if value == "-":
         return "nothing"
-    shown = "".join(c if is_seen(c) else f"\\u{ord(c):04x}" for c in value)
+    shown = "".join(c if is_seen(c) else escape(c) for c in value)
     return shown if len(shown) <= most else f"{shown[:most]}... ({len(shown):,} characters)"
 
 
@@ -212,10 +227,8 @@ class Explaining:
             return [(at, branch, "pushed " + value_text(self.runs[at].tasks[branch][0].value, 200)) for branch in self.skipping(at, task)]
         if letter in "ie":
             return [(at, self.graph.expand[task], {"i": None, "e": "pushed no items"}[letter])]
-        if letter == "k" and self.graph.rule(task) not in SKIPS_FOR_SKIPPED:
-            return []
         next_tasks = {
-            "k": self.some_in(at, ups, (SKIPPED,)),
+            "k": self.some_in(at, ups, SKIPS_FOR.get(self.graph.rule(task), ())),
             "u": self.some_in(at, ups, BAD),
             "p": self.blocked(at, ups),
             "q": [up for up in self.blocked(at, ups) if self.graph.is_branch[up]],
@@ -266,15 +279,28 @@ class Explaining:
             value = instance.item if kind == "item" else dict(instance.pulls)[word["pull"]]
             return json.loads(value) if value.startswith('"') else "" if value == "-" else value
 
-        return [" ".join(quoted(word_text(kind, word)) for kind, word in zip(kinds, command))]
+        words = [word_text(kind, word) for kind, word in zip(kinds, command)]
+        return [self.settings(at, task, instance, words) + " ".join(map(quoted, words))]
 
-    def clear_line(self, at, task):
+    def settings(self, at, task, instance, words):
+        """What sets the variables that these words name. The graphs' zone is UTC."""
+        run, ids = self.runs[at], {"DAG_ID": self.graph.dag_id, "TASK_ID": self.graph.id(task)}
+        date, tries = run.start.split("T")[0], {"TRY_NUMBER": instance.tries}
+        variables = ids | {"RUN": run.start, "DATE": date, "DATE_NODASH": date.replace("-", ""), "INTERVAL_START": run.start, "INTERVAL_END": run.end}
+        variables = {f"BACKFILL_{name}": value for name, value in (variables | {"MAP_INDEX": instance.index} | tries).items()}
+        of_airflow = ids | {"EXECUTION_DATE": run.start.replace("Z", "+00:00")} | tries
+        variables |= {f"AIRFLOW_CTX_{name}": value for name, value in of_airflow.items()}
+        named = [f"{name}={quoted(str(value))} " for name, value in variables.items() if any(name in word for word in words)]
+        return "env " + "".join(named) if named else ""
+
+    def clear_line(self, at, task, index):
         def short(run):
             return run.start.removesuffix("T00:00:00Z")
 
         name = self.graph.id(task)
         words = ["backfill", "clear", "--from", short(self.runs[0]), "--to", short(self.runs[-1])]
         words += ([f"--task={name}"] if name.startswith("-") else ["--task", name]) + ["--run", short(self.runs[at])]
+        words += [] if index is None else ["--index", str(index)]
         words += ["--"] if any(path.startswith("-") for path in self.paths) else []
         return " ".join(map(quoted, [*words, *self.paths])) + " > " + quoted(self.paths[1] + ".new")
 
@@ -286,12 +312,18 @@ class Explaining:
             level = {each for each in level if self.graph.tasks[each]["depends_on_past"]}
         return f"{many(places, 'task')} in {many(runs, 'run')}"
 
-    def clears(self, at, task):
-        places = [root[:2] for root in self.roots(at, task)[:3]] or [(at, task)]
-        for other, each in places:
+    def clears(self, at, task, index):
+        instances = self.runs[at].tasks[task]
+        of_it = instances if index is None else instances[index:index + 1]
+        roots = self.roots(at, task)
+        if {instance.state for instance in of_it} & {*BAD, NO_STATUS}:
+            places = [(*root[:2], None) for root in roots[:3]] or [(at, task, index)]
+        else:
+            places = [(*root[:2], None) for root in roots if root[2] == "failed"][:3]
+        for other, each, one in places:
             if self.runs[other].start != self.runs[other].end:
                 name = "" if (other, each) == (at, task) else f" {self.graph.id(each)}{self.there(at, other)}"
-                yield f"clear{name}, with what follows from it: {self.cleared(other, each)}", [self.clear_line(other, each)]
+                yield f"clear{name}, with what follows from it: {self.cleared(other, each)}", [self.clear_line(other, each, one)]
 
     # ---- the whole
 
@@ -312,7 +344,7 @@ class Explaining:
             given += [f"pulled {name}  {value_text(value)}" for name, value in one.pulls]
             sections += [("pushed", [value_text(one.value)] if one.value != "-" else []), ("given", given), ("by hand", self.by_hand(at, task, one))]
         sections += [("upstream", self.rows(at, self.graph.up[task])), ("downstream", self.rows(at, self.graph.down[task]))]
-        sections += self.clears(at, task)
+        sections += self.clears(at, task, place)
         return text_of(f"{name} in the run of {self.runs[at].start}: {state}", sections)
 
     def order(self):

@@ -211,9 +211,8 @@ not tried
   prong  no_status
 LINES
 
-# An expanded task as a whole, and an instance of it.
+# An expanded task as a whole, and an instance of it. Nothing of it failed, so nothing has to be cleared.
 
-clear="backfill clear --from 2024-01-01 --to 2024-01-02 --task each --run 2024-01-01 $graph $report > $report.new"
 answers 0 explain "$graph" "$report" --run 2024-01-01 --task each <<LINES
 each in the run of 2024-01-01T00:00:00Z: 2 instances, 1 success, 1 skipped
 why
@@ -228,8 +227,6 @@ upstream
 downstream
   again  1 instance, 1 success
   end    upstream_failed
-clear, with what follows from it: 3 tasks in 1 run
-  $clear
 LINES
 answers 0 explain "$graph" "$report" --run 2024-01-01 --task each --index 1 <<LINES
 each [1] in the run of 2024-01-01T00:00:00Z: skipped
@@ -247,8 +244,79 @@ upstream
 downstream
   again  1 instance, 1 success
   end    upstream_failed
-clear, with what follows from it: 3 tasks in 1 run
-  $clear
+LINES
+
+# Of an expanded task with a failed instance this one is cleared alone, where it is told of alone.
+
+tasks '{"id":"s"},{"id":"m","upstream":["s"],"expand":"s"},{"id":"z","upstream":["m"]}'
+sed 's/^    //' > "$report" <<'REPORT'
+    @backfill 2 d
+    @run 2024-01-01T00:00:00Z 2024-01-02T00:00:00Z failed
+    s -1 success 1 [7,8]
+    m 0 success 1 -
+    @item 7
+    m 1 failed 1 -
+    @item 8
+    z -1 upstream_failed 0 -
+    @end 1
+REPORT
+clear="backfill clear --from 2024-01-01 --to 2024-01-01 --task m --run 2024-01-01"
+
+# The lines that clear something, of the task of these words.
+clears() {
+    "$program" explain "$graph" "$report" --run 2024-01-01 "$@" | sed -n '/^clear/,$p'
+}
+follows='with what follows from it: 2 tasks in 1 run'
+is_same 'the clear lines of m' "clear, $follows"$'\n'"  $clear $graph $report > $report.new" "$(clears --task m)"
+is_same 'the clear lines of m 1' "clear, $follows"$'\n'"  $clear --index 1 $graph $report > $report.new" "$(clears --task m --index 1)"
+is_same 'the clear lines of m 0' '' "$(clears --task m --index 0)"
+is_same 'the clear lines of s' '' "$(clears --task s)"
+is_same 'the clear lines of z' "clear m, $follows"$'\n'"  $clear $graph $report > $report.new" "$(clears --task z)"
+
+# Where it began, through each rule that skips for its upstreams: nothing failed before e, and f failed before h and k.
+
+tasks '{"id":"a"},{"id":"b","upstream":["a"]},{"id":"c","upstream":["b"],"rule":"all_failed"},{"id":"e","upstream":["c"]},
+  {"id":"f"},{"id":"g","upstream":["f"]},{"id":"h","upstream":["g"],"rule":"one_done"},{"id":"k","upstream":["g"],"rule":"all_skipped"}'
+sed 's/^    //' > "$report" <<'REPORT'
+    @backfill 2 d
+    @run 2024-01-01T00:00:00Z 2024-01-02T00:00:00Z success
+    a -1 skipped 1 -
+    b -1 skipped 0 -
+    c -1 skipped 0 -
+    e -1 skipped 0 -
+    f -1 failed 1 -
+    g -1 upstream_failed 0 -
+    h -1 skipped 0 -
+    k -1 skipped 0 -
+    @end 1
+REPORT
+answers 0 explain "$graph" "$report" --run 2024-01-01 --task e <<'LINES'
+e in the run of 2024-01-01T00:00:00Z: skipped
+why
+  Its rule all_success, over 1 upstream instance (1 skipped), says skipped, because of c.
+  It began where a exited with 99.
+upstream
+  c  skipped
+LINES
+answers 0 explain "$graph" "$report" --run 2024-01-01 --task h <<LINES
+h in the run of 2024-01-01T00:00:00Z: skipped
+why
+  Its rule one_done, over 1 upstream instance (1 upstream_failed), says skipped, since none is success or failed.
+  It began where f failed.
+upstream
+  g  upstream_failed
+clear f, with what follows from it: 4 tasks in 1 run
+  backfill clear --from 2024-01-01 --to 2024-01-01 --task f --run 2024-01-01 $graph $report > $report.new
+LINES
+answers 0 explain "$graph" "$report" --run 2024-01-01 --task k <<LINES
+k in the run of 2024-01-01T00:00:00Z: skipped
+why
+  Its rule all_skipped, over 1 upstream instance (1 upstream_failed), says skipped, because of g.
+  It began where f failed.
+upstream
+  g  upstream_failed
+clear f, with what follows from it: 4 tasks in 1 run
+  backfill clear --from 2024-01-01 --to 2024-01-01 --task f --run 2024-01-01 $graph $report > $report.new
 LINES
 
 # Indexes stand as ranges. A report of \`single\` is of no range, and one of version 1 doesn't tell what was given.
@@ -301,9 +369,24 @@ pushed
   "\u202e${long:0:4089}... (5,008 characters)
 by hand
   -n -1 \$'a\007b' 'it'\''s'
-clear, with what follows from it: 1 task in 1 run
-  backfill clear --zone-file /dev/null --from 2024-01-01T06:00:00Z --to 2024-01-01T06:00:00Z '--task=-x' --run 2024-01-01T06:00:00Z $graph $report > $report.new
 LINES
+printf '@backfill 2 d\n@run 2024-01-01T06:00:00Z 2024-01-02T00:00:00Z failed\n-x -1 failed 1 -\n@end 1\n' > "$work/failed"
+is_same 'the clear line of -x' "  backfill clear --zone-file /dev/null --from 2024-01-01T06:00:00Z --to 2024-01-01T06:00:00Z '--task=-x' --run 2024-01-01T06:00:00Z $graph $work/failed > $work/failed.new" \
+    "$("$program" explain --run 2024-01-01T06:00:00Z --task=-x --zone-file=/dev/null -- "$graph" "$work/failed" | tail -n 1)"
+
+# By hand with the variables that the command names, whose dates are of the graph's zone: at 23:30 in UTC it is the next day there.
+
+cat > "$graph" <<'GRAPH'
+{"dag_id":"d","schedule":"30 0 * * *","zone":"+01:00","tasks":[{"id":"t","command":
+  ["sh","-c","echo $BACKFILL_DATE_NODASH $AIRFLOW_CTX_EXECUTION_DATE"]},{"id":"u","command":["echo","BACKFILL"]}]}
+GRAPH
+printf '%s\n' '@backfill 2 d' '@run 2024-03-04T23:30:00Z 2024-03-05T23:30:00Z success' 't -1 success 1 -' 'u -1 success 1 -' '@end 1' > "$report"
+by_hand() {
+    "$program" explain "$graph" "$report" --run 2024-03-04T23:30:00Z --task "$1" | sed -n '/^by hand$/,$ { s/^  //p }'
+}
+is_same 'by hand: t' "env BACKFILL_DATE=2024-03-05 BACKFILL_DATE_NODASH=20240305 AIRFLOW_CTX_EXECUTION_DATE=2024-03-04T23:30:00+00:00 sh -c 'echo \$BACKFILL_DATE_NODASH \$AIRFLOW_CTX_EXECUTION_DATE'" "$(by_hand t)"
+is_same 'by hand: u' 'echo BACKFILL' "$(by_hand u)"
+is_same 'what the line of t does' '20240305 2024-03-04T23:30:00+00:00' "$(eval "$(by_hand t)")"
 
 # What is looked at first.
 

@@ -2,4 +2,5 @@ mod BesideFacts
 mod HandFacts
 mod IndexFacts
 mod SectionFacts
+mod StandFacts
 mod TaskFacts

@@ -12,7 +12,8 @@ use Rattle.bf_clear.specs.Entries.{given_in}
 use Rattle.bf_failure.specs.Tried.{IsContext}
 use Rattle.bf_words.specs.Words.{words_of}
 use Rattle.bf_words.specs.declared.context.JobContext.{JobContext}
-use Rattle.bf_quoted.specs.Lines.{line_of}
+use Rattle.bf_process.specs.Clocks.{clock_of}
+use Rattle.bf_explain.specs.Variables.{hand_line_of}
 
 -- the report tells the word: version 1 doesn't tell what an instance was given
 abbrev pub tells_word_in : Version → InstanceReport → Word → Bool
@@ -35,21 +36,22 @@ abbrev pub last_try : ℕ → ℕ → ℤ → InstanceReport → JobName
 last_try run task index instance =
     record { run = run; task = task; index = index; attempt = instance.result.tries }
 
--- the line has the words of the last try
-abbrev pub IsHandLine : Dag → Interval → ℕ → ℕ → ℤ → InstanceReport → List ℕ → Type 0
-IsHandLine dag interval run task index instance line =
+-- the line has the words of the last try, with the variables that they name
+abbrev pub IsHandLine : Dag → Interval → List ℤ → ℕ → ℕ → ℤ → InstanceReport → List ℕ → Type 0
+IsHandLine dag interval clocks run task index instance line =
     (context : JobContext) × IsContext dag (task_of dag task) interval
     (last_try run task index instance) context
-    × (line ≡ line_of (words_of context (given_in instance) (task_of dag task).command))
+    × (line ≡ hand_line_of context (clock_of clocks run context)
+    (words_of context (given_in instance) (task_of dag task).command))
 
 abbrev pub IsLineIf : Bool → (List ℕ → Type 0) → List (List ℕ) → Type 0
 IsLineIf true IsLine lines = (line : List ℕ) × IsLine line × (lines ≡ line ∷ [])
 IsLineIf false IsLine lines = lines ≡ []
 
 -- where the report tells them, and there is one instance
-abbrev pub AreHandLines : Dag → Interval → Version → ℕ → ℕ → ℤ → Option InstanceReport
+abbrev pub AreHandLines : Dag → Interval → Version → List ℤ → ℕ → ℕ → ℤ → Option InstanceReport
     → List (List ℕ) → Type 0
-AreHandLines dag interval version run task index None lines = lines ≡ []
-AreHandLines dag interval version run task index (Some instance) lines =
+AreHandLines dag interval version clocks run task index None lines = lines ≡ []
+AreHandLines dag interval version clocks run task index (Some instance) lines =
     IsLineIf (tells_words_in version instance (task_of dag task).command)
-    (IsHandLine dag interval run task index instance) lines
+    (IsHandLine dag interval clocks run task index instance) lines

@@ -1,7 +1,13 @@
 -- The lines that clear a task in a run, and what is cleared by them.
-use Rattle.std.specs.Prelude.{◌≡◌, ℕ, ◌+◌, ◌-◌, ◌==◌, ◌&&◌, ◌||◌, Bool, true, false, if◌then◌else◌, List, [], ◌∷◌, ◌++◌, Option, None, Some, codes, fold, length, map, slice_get, take}
+use Rattle.std.specs.Prelude.{◌≡◌, ℕ, ℤ, ◌+◌, ◌-◌, ◌==◌, ◌&&◌, ◌||◌, nat_lt, Bool, true, false, if◌then◌else◌, List, [], ◌∷◌, ◌++◌, Option, None, Some, codes, filter, fold, length, map, slice_get, take}
+use Rattle.std.specs.Fmt.{signed_decimal}
 use Rattle.std.specs.Ordering.{int_eq}
-use Rattle.bf_core.specs.Terms.{Dag}
+use Rattle.bf_rule.specs.Verdicts.{failures_of}
+use Rattle.bf_core.specs.Terms.{Counts, Dag, is_failed}
+use Rattle.bf_core.specs.Deciding.{counts_in}
+use Rattle.bf_clear.specs.Entries.{value_in}
+use Rattle.bf_report.specs.declared.report.InstanceReport.{InstanceReport}
+use Rattle.bf_report.specs.declared.report.TaskReport.{TaskReport}
 use Rattle.bf_report.specs.declared.report.RunReport.{RunReport}
 use Rattle.bf_report.specs.declared.report.Report.{Report}
 use Rattle.bf_dependents.specs.declared.place.Place.{Place}
@@ -9,6 +15,7 @@ use Rattle.bf_dependents.specs.Dependents.{AreDependents, Following}
 use Rattle.bf_dependents.specs.Listing.{places_in}
 use Rattle.bf_quoted.specs.Lines.{line_of}
 use Rattle.bf_quoted.specs.Words.{quoted}
+use Rattle.bf_roots.specs.declared.step.Began.{Began}
 use Rattle.bf_roots.specs.declared.step.Root.{Root}
 use Rattle.bf_why.specs.Decided.{id_of}
 use Rattle.bf_wording.specs.Numbers.{count_text_of}
@@ -52,10 +59,14 @@ range_words report =
     codes "--from" ∷ short_start_in report 0 ∷ codes "--to"
     ∷ short_start_in report (length report.runs - 1) ∷ []
 
+abbrev pub index_words : Option ℤ → List (List ℕ)
+index_words None = []
+index_words (Some index) = option_words (codes "--index") (signed_decimal index)
+
 abbrev pub seed_words : Dag → Report → Place → List (List ℕ)
 seed_words dag report place =
-    option_words (codes "--task") (id_of dag place.task) ++ codes "--run"
-    ∷ short_start_in report place.run ∷ []
+    (option_words (codes "--task") (id_of dag place.task) ++ codes "--run"
+    ∷ short_start_in report place.run ∷ []) ++ index_words place.index
 
 abbrev pub clear_words_of : Paths → Dag → Report → Place → List (List ℕ)
 clear_words_of paths dag report place =
@@ -126,13 +137,45 @@ AreClearSections paths dag report run task (place ∷ places) lines =
 
 -- ---- the places
 
-abbrev pub place_in : ℕ → ℕ → Place
-place_in run task = record { run = run; task = task; index = None }
+-- the task in the run, or the one instance that is told of alone
+abbrev pub place_told_of : ℕ → ℕ → TaskReport → Option ℤ → Place
+place_told_of run task (TaskReport.Mapped instances) index =
+    record { run = run; task = task; index = index }
+place_told_of run task told index = record { run = run; task = task; index = None }
+
+abbrev pub has_failed_in : Option InstanceReport → Bool
+has_failed_in None = false
+has_failed_in (Some instance) = is_failed instance.result.outcome
+
+-- an instance is failed or upstream_failed, or has no status
+abbrev pub has_failure_among : Counts → Bool
+has_failure_among counts = nat_lt 0 (failures_of counts + counts.blocked)
+
+-- so is the one instance that is told of alone, or one of the task's
+abbrev pub has_failure_in : TaskReport → Option ℕ → Bool
+has_failure_in (TaskReport.Mapped instances) (Some place) =
+    has_failed_in (slice_get instances place)
+has_failure_in told place = has_failure_among (counts_in (value_in told))
+
+abbrev pub began_with_failure_in : Root → Bool
+began_with_failure_in root =
+    elim root.began [
+      | Began.Failed ↦ true
+      | _ ↦ false
+    ]
+
+abbrev pub root_place_of : Root → Place
+root_place_of root = record { run = root.run; task = root.task; index = None }
 
 abbrev pub root_places_of : List Root → List Place
-root_places_of roots = map (λ root. place_in root.run root.task) (take 3 roots)
+root_places_of roots = map root_place_of (take 3 roots)
 
--- the first three places where it began, or else the task itself
-abbrev pub places_to_clear_in : ℕ → ℕ → List Root → List Place
-places_to_clear_in run task [] = place_in run task ∷ []
-places_to_clear_in run task (root ∷ roots) = root_places_of (root ∷ roots)
+-- the first three places where it began, or else the place itself
+abbrev pub root_places_or : Place → List Root → List Place
+root_places_or place [] = place ∷ []
+root_places_or place (root ∷ roots) = root_places_of (root ∷ roots)
+
+-- those, where the place has a failure; of another the first three where one began
+abbrev pub places_to_clear_in : Place → Bool → List Root → List Place
+places_to_clear_in place true roots = root_places_or place roots
+places_to_clear_in place false roots = root_places_of (filter began_with_failure_in roots)

@@ -3,6 +3,7 @@ pub mod Sections
 pub mod Headings
 pub mod Indexes
 pub mod Began
+pub mod Variables
 pub mod ByHand
 pub mod Clearing
 pub mod Runs

@@ -16,7 +16,7 @@ use Rattle.bf_explain.specs.declared.paths.Paths.{Paths}
 use Rattle.bf_explain.specs.Began.{began_lines_of}
 use Rattle.bf_explain.specs.Beside.{given_lines_of, pushed_lines_of, task_lines_of}
 use Rattle.bf_explain.specs.ByHand.{AreHandLines, index_in}
-use Rattle.bf_explain.specs.Clearing.{AreClearSections, places_to_clear_in}
+use Rattle.bf_explain.specs.Clearing.{AreClearSections, has_failure_in, place_told_of, places_to_clear_in}
 use Rattle.bf_explain.specs.Headings.{heading_of_state, instance_in, place_in}
 use Rattle.bf_explain.specs.Indexes.{state_lines_of}
 use Rattle.bf_explain.specs.Runs.{is_upstream_in}
@@ -74,18 +74,20 @@ abbrev pub AreRootsIf : Bool → Dag → Report → ℕ → ℕ → List Root �
 AreRootsIf true dag report run task roots = roots ≡ []
 AreRootsIf false dag report run task roots = AreRootsOf dag report run task roots
 
--- the lines on a task that the report has so in this run, or on its instance of this map index
-pub record AreTaskLines (paths : Paths) (dag : Dag) (report : Report) (run : ℕ)
+-- the lines on a task that the report has so in this run, or on its instance of this map index, by what the clocks of the graph's zone
+-- show at the starts of the runs
+pub record AreTaskLines (paths : Paths) (dag : Dag) (report : Report) (clocks : List ℤ) (run : ℕ)
     (told_run : RunReport) (task : ℕ) (told : TaskReport) (index : Option ℤ)
     (lines : List (List ℕ)) : Type 0 where
   pub roots : List Root
   pub hand : List (List ℕ)
   pub clear : List (List ℕ)
   pub are_roots : AreRootsIf (is_tried_in told) dag report run task roots
-  pub is_hand : AreHandLines dag told_run.interval report.version run task (index_in told index)
-      (instance_in told (place_in index)) hand
+  pub is_hand : AreHandLines dag told_run.interval report.version clocks run task
+      (index_in told index) (instance_in told (place_in index)) hand
   pub is_clear : AreClearSections paths dag report run task
-      (places_to_clear_in run task roots) clear
+      (places_to_clear_in (place_told_of run task told index)
+      (has_failure_in told (place_in index)) roots) clear
   pub lines_are : lines ≡ ((((heading_of_state
       (id_of dag task) told_run.interval.start.nanosecond told (place_in index) ∷ []
       ++ why_section dag report run told_run task told (place_in index) roots)
@@ -94,8 +96,9 @@ pub record AreTaskLines (paths : Paths) (dag : Dag) (report : Report) (run : ℕ
       ++ beside_sections dag told_run.tasks task)
       ++ clear
 
-abbrev pub IsTaskText : Paths → Dag → Report → ℕ → RunReport → ℕ → TaskReport → Option ℤ → List ℕ
-    → Type 0
-IsTaskText paths dag report run told_run task told index text =
-    (lines : List (List ℕ)) × AreTaskLines paths dag report run told_run task told index lines
+abbrev pub IsTaskText : Paths → Dag → Report → List ℤ → ℕ → RunReport → ℕ → TaskReport → Option ℤ
+    → List ℕ → Type 0
+IsTaskText paths dag report clocks run told_run task told index text =
+    (lines : List (List ℕ))
+    × AreTaskLines paths dag report clocks run told_run task told index lines
     × (text ≡ lines_text_of lines)

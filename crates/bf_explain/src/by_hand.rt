@@ -5,11 +5,11 @@ ghost use Rattle.bf_core.specs.Terms.{task_of};
 ghost use Rattle.bf_clear.specs.Entries.{given_in};
 ghost use Rattle.bf_explain.specs.ByHand.{AreHandLines, IsHandLine, index_in, tells_word_in, tells_words_in};
 ghost use Rattle.bf_graph.specs.Shape.{texts};
-ghost use Rattle.bf_quoted.specs.Lines.{line_of};
 
+use crate::variables::hand_line;
 use bf_moment::Moment;
 use bf_plan::{Plan, Word};
-use bf_quoted::push_line;
+use bf_process::clock_of_run;
 use bf_report::{InstanceReport, Pull, RunReport, TaskReport, Version};
 use bf_value::{OutOfMemory, Sequence, Text, copy_option};
 use bf_wording::one_line;
@@ -86,30 +86,22 @@ fn texts_of(alloc: Global, words: Vec<String>) -> Result<Vec<Text>, OutOfMemory>
     Ok(all)
 }
 
-/// One line of a shell: the words, each quoted where a shell needs it, with a space between and no line feed.
-fn line_of_words(alloc: Global, words: Vec<String>) -> Result<Text, OutOfMemory>
-    ensures { IfOk result (λ line. line ≡ line_of (texts words.items)) }
-{
-    let words = texts_of(alloc, words)?;
-    let mut line = String::new(alloc);
-    push_line(alloc, &mut line, words.as_slice())?;
-    Ok(Text::new(line))
-}
-
 /// The shell line, without a line feed, that repeats the last try of `instance`: the words of its command with their
-/// values. `report` is run number `run`; `index` is -1 where the task isn't expanded.
+/// values, and before them the variables that they name. `report` is run number `run`, and `clocks` are what the clocks
+/// of the graph's zone show at the start of each run; `index` is -1 where the task isn't expanded.
 fn by_hand_line(
     alloc: Global,
     plan: &Plan,
     report: &RunReport,
+    clocks: &[Moment],
     run: u32,
     task: u32,
     index: i32,
     instance: &InstanceReport,
 ) -> Result<Text, OutOfMemory>
     requires { task < length plan.now.dag.tasks }
-    ensures { IfOk result (IsHandLine plan.now.dag report.now.interval run task index
-        instance.now) }
+    ensures { IfOk result (IsHandLine plan.now.dag report.now.interval
+        (map (λ clock. clock.at.nanosecond) clocks.now) run task index instance.now) }
 {
     let dag = plan.dag();
     let made = dag.task(task);
@@ -123,8 +115,12 @@ fn by_hand_line(
         map_index: index,
         try_number: ended.tries,
     };
-    let words = words(alloc, made.command.as_slice(), &context, &given)?;
-    line_of_words(alloc, words)
+    let words = texts_of(
+        alloc,
+        words(alloc, made.command.as_slice(), &context, &given)?,
+    )?;
+    let clock = clock_of_run(clocks, run, &context);
+    hand_line(alloc, words.as_slice(), &context, clock)
 }
 
 /// Whether task number `task` has a command, and a report of this version holds the value of each of its words for
@@ -137,21 +133,22 @@ fn is_command_told(plan: &Plan, version: Version, task: u32, instance: &Instance
 }
 
 /// The one shell line that repeats the last try of `instance`. Empty where `instance` is None, the task has no command,
-/// or the report lacks the value of one of its words. `report` is run number `run`; `index` is -1 where the task isn't
-/// expanded.
+/// or the report lacks the value of one of its words. `report` is run number `run`, and `clocks` are what the clocks of
+/// the graph's zone show at the start of each run; `index` is -1 where the task isn't expanded.
 pub(crate) fn by_hand_lines(
     alloc: Global,
     plan: &Plan,
     report: &RunReport,
     version: Version,
+    clocks: &[Moment],
     run: u32,
     task: u32,
     index: i32,
     instance: Option<&InstanceReport>,
 ) -> Result<Vec<Text>, OutOfMemory>
     requires { task < length plan.now.dag.tasks }
-    ensures { IfOk result (λ lines. AreHandLines plan.now.dag report.now.interval version run task
-        index
+    ensures { IfOk result (λ lines. AreHandLines plan.now.dag report.now.interval version
+        (map (λ clock. clock.at.nanosecond) clocks.now) run task index
         (option_copied instance.entry) lines.items) }
 {
     let Some(instance) = instance else {
@@ -162,6 +159,6 @@ pub(crate) fn by_hand_lines(
     }
     one_line(
         alloc,
-        by_hand_line(alloc, plan, report, run, task, index, instance)?,
+        by_hand_line(alloc, plan, report, clocks, run, task, index, instance)?,
     )
 }

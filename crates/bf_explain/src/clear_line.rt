@@ -1,6 +1,6 @@
 //! The line that clears a task in a run.
 ghost use Rattle.std.specs.Prelude.{◌≡◌, ◌++◌, ◌∷◌, [], IfOk, OnOk, codes, option_copied};
-ghost use Rattle.bf_explain.specs.Clearing.{begins_with_hyphen_in, clear_line_of, clear_words_of, option_words, path_words, range_words, seed_words, short_start_of, short_start_in, zone_words};
+ghost use Rattle.bf_explain.specs.Clearing.{begins_with_hyphen_in, clear_line_of, clear_words_of, index_words, option_words, path_words, range_words, seed_words, short_start_of, short_start_in, zone_words};
 
 use crate::paths::Paths;
 use bf_dependents::Place;
@@ -95,7 +95,18 @@ fn add_range(alloc: Global, words: &mut Vec<Text>, report: &Report) -> Result<()
     Ok(())
 }
 
-/// Adds `--task` and `--run` with the task and the run of a place; its map index is left out.
+/// Adds `--index` with this map index; adds nothing for None.
+fn add_index(alloc: Global, words: &mut Vec<Text>, index: Option<i32>) -> Result<(), OutOfMemory>
+    ensures { OnOk result (words.new.items ≡ words.old.items ++ index_words index) }
+{
+    let Some(index) = index else {
+        return Ok(());
+    };
+    let text = index.to_string(alloc)?;
+    add_option(alloc, words, "--index", text.as_str())
+}
+
+/// Adds `--task` and `--run` with the task and the run of a place, and `--index` where it is of one instance.
 fn add_seed(
     alloc: Global,
     words: &mut Vec<Text>,
@@ -109,7 +120,7 @@ fn add_seed(
     add_option(alloc, words, "--task", plan.dag().id_of(place.task))?;
     add_line(alloc, words, "--run")?;
     words.push(short_start_at(alloc, report, place.run as usize)?)?;
-    Ok(())
+    add_index(alloc, words, place.index)
 }
 
 /// The words `backfill clear`.
@@ -149,7 +160,7 @@ fn new_report_path(alloc: Global, paths: &Paths) -> Result<Text, OutOfMemory>
     Ok(Text::new(format!(in alloc; "{report}.new")?))
 }
 
-/// The shell line, without a line feed, that clears the task of `place` in its run and writes the new report to the
+/// The shell line, without a line feed, that clears the task of `place` in its run, or its one instance, and writes the new report to the
 /// path of the old one with `.new` added. `paths` are the files that it names.
 pub(crate) fn clear_line(
     alloc: Global,

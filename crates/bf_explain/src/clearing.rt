@@ -1,18 +1,22 @@
 //! What is cleared with a task in a run, in a heading above the line that does it.
-ghost use Rattle.std.specs.Prelude.{◌≡◌, ◌<◌, ◌≤◌, ◌++◌, IfOk, OnOk, length, option_copied};
-ghost use Rattle.bf_explain.specs.Clearing.{AreClearSections, IsClearSection, IsCleared, clear_heading_of, is_of_single_in, last_run_of, place_in, place_text_of, places_to_clear_in, root_places_of};
+ghost use Rattle.std.specs.Prelude.{◌≡◌, ◌<◌, ◌≤◌, ◌++◌, IfOk, OnOk, filter, length, option_copied};
+ghost use Rattle.bf_explain.specs.Clearing.{AreClearSections, IsClearSection, IsCleared, began_with_failure_in, clear_heading_of, has_failed_in, has_failure_in, is_of_single_in, last_run_of, place_text_of, place_told_of, places_to_clear_in, root_place_of, root_places_of};
+ghost use Rattle.bf_explain.specs.Headings.{place_in};
 ghost use Rattle.bf_explain.specs.Sections.{section};
 
 use crate::began::other_run_text;
 use crate::clear_line::clear_line;
+use crate::headings::place_of;
 use crate::paths::Paths;
 use crate::sections::add_section;
 use bf_dependents::{Place, dependents};
 use bf_plan::Plan;
-use bf_report::{Report, RunReport};
-use bf_roots::Root;
+use bf_reason::Settled;
+use bf_report::{InstanceReport, Report, RunReport, TaskReport};
+use bf_roots::{Began, Root};
 use bf_value::{OutOfMemory, Text};
 use bf_wording::{add_lines, count_text, one_line};
+use bf_xcom::Outcome;
 use std::alloc::Global;
 
 /// A clear command is shown for at most this many roots.
@@ -25,12 +29,58 @@ struct ClearedCount {
     runs: u64,
 }
 
-/// The place of task number `task` in run number `run`, with all its instances.
-fn place_at(run: u32, task: u32) -> Place
-    ensures { result ≡ place_in run task }
+/// The place that is explained: task number `task` in run number `run`, or its instance of map index `index` where the
+/// task ran expanded and an index is given.
+fn place_told(run: u32, task: u32, told: &TaskReport, index: Option<i32>) -> Place
+    ensures { result ≡ place_told_of run task told.now index }
 {
-    let index = None;
+    let index = match told {
+        TaskReport::Mapped(_) => index,
+        _ => None,
+    };
     Place { run, task, index }
+}
+
+/// Whether there is an instance, and it failed.
+fn has_failed(instance: Option<&InstanceReport>) -> Result<bool, OutOfMemory>
+    ensures { IfOk result (λ failed. failed ≡ has_failed_in (option_copied instance.entry)) }
+{
+    match instance {
+        Some(instance) => Ok(matches!(instance.result()?.outcome, Outcome::Failed)),
+        None => Ok(false),
+    }
+}
+
+/// Whether an instance of a task is failed or upstream_failed or has no status; where the task ran expanded and a place
+/// is given, from 0, whether its instance there failed.
+fn has_failure(told: &Settled<'_>, place: Option<usize>) -> Result<bool, OutOfMemory>
+    ensures { IfOk result (λ failed. failed ≡ has_failure_in told.now place) }
+{
+    match (told.task_report(), place) {
+        (TaskReport::Mapped(instances), Some(place)) => has_failed(instances.get(place)),
+        _ => {
+            let counts = told.counts();
+            Ok(counts.failed + counts.upstream_failed + counts.blocked > 0)
+        }
+    }
+}
+
+/// Whether a failure is what began at a root.
+fn began_with_failure(root: &Root) -> bool
+    ensures { result ≡ began_with_failure_in root.now }
+{
+    matches!(root.began, Began::Failed)
+}
+
+/// The place of a root, with all its instances.
+fn root_place(root: &Root) -> Place
+    ensures { result ≡ root_place_of root.now }
+{
+    Place {
+        run: root.run,
+        task: root.task,
+        index: None,
+    }
 }
 
 /// The run of the last of these places; `run` where there are no places.
@@ -161,29 +211,45 @@ fn root_places(alloc: Global, roots: &[Root]) -> Result<Vec<Place>, OutOfMemory>
 {
     let mut places = Vec::new(alloc);
     for root in &roots[..roots.len().min(MOST_PLACES)] {
-        places.push(place_at(root.run, root.task))?;
+        places.push(root_place(root))?;
     }
     Ok(places)
 }
 
-/// The places to show a clear command for: those of the first three roots, or that of the task explained, `task` in
-/// `run`, where there are no roots.
+/// The places of the first three roots at which a failure began it.
+fn failed_root_places(alloc: Global, roots: &[Root]) -> Result<Vec<Place>, OutOfMemory>
+    ensures { IfOk result (λ places. places.items
+        ≡ root_places_of (filter began_with_failure_in roots.now)) }
+{
+    let failed: Vec<Root> = roots
+        .iter()
+        .copied()
+        .filter(|root| began_with_failure(root))
+        .collect(alloc)?;
+    root_places(alloc, failed.as_slice())
+}
+
+/// The places to show a clear command for. Where `place`, which is explained, has a failure: those of the first three
+/// roots, or itself where there are none. Else those of the first three roots at which a failure began it.
 fn places_to_clear(
     alloc: Global,
-    run: u32,
-    task: u32,
+    place: Place,
+    has_failure: bool,
     roots: &[Root],
 ) -> Result<Vec<Place>, OutOfMemory>
-    ensures { IfOk result (λ places. places.items ≡ places_to_clear_in run task roots.now) }
+    ensures { IfOk result (λ places. places.items
+        ≡ places_to_clear_in place has_failure roots.now) }
 {
-    match roots {
-        [] => Ok(vec![in alloc; place_at(run, task)]?),
-        [_, ..] => root_places(alloc, roots),
+    match (has_failure, roots) {
+        (true, []) => Ok(vec![in alloc; place]?),
+        (true, [_, ..]) => root_places(alloc, roots),
+        (false, _) => failed_root_places(alloc, roots),
     }
 }
 
-/// Headings and shell lines that clear the first three roots or, where there are none, the task explained, `task` in
-/// `run`. A place in a run of `backfill single` has none.
+/// Headings and shell lines that clear the places where it began that a task, `task` in `run`, or its instance of map
+/// index `index`, has its state: at most three. Where there are none, those of the task or the instance itself. Empty
+/// where nothing failed and nothing follows from a failure; a place in a run of `backfill single` has none.
 pub(crate) fn clear_lines(
     alloc: Global,
     paths: &Paths,
@@ -191,12 +257,17 @@ pub(crate) fn clear_lines(
     report: &Report,
     run: u32,
     task: u32,
+    told: &Settled<'_>,
+    index: Option<i32>,
     roots: &[Root],
 ) -> Result<Vec<Text>, OutOfMemory>
     requires { length report.now.runs ≤ 4_096 }
     ensures { IfOk result (λ lines. AreClearSections paths.now plan.now.dag report.now run task
-        (places_to_clear_in run task roots.now) lines.items) }
+        (places_to_clear_in (place_told_of run task told.now index)
+        (has_failure_in told.now (place_in index)) roots.now) lines.items) }
 {
-    let places = places_to_clear(alloc, run, task, roots)?;
+    let place = place_told(run, task, told.task_report(), index);
+    let has_failure = has_failure(told, place_of(index))?;
+    let places = places_to_clear(alloc, place, has_failure, roots)?;
     clear_sections(alloc, paths, plan, report, run, task, places.as_slice())
 }

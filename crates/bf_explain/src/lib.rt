@@ -27,6 +27,7 @@ mod run;
 mod run_why;
 mod sections;
 mod task;
+mod variables;
 mod why_section;
 
 pub use headings::has_index;

@@ -1,5 +1,5 @@
 //! A task in a run, or one of its instances: why it has its state, what it was given, and how it is cleared.
-ghost use Rattle.std.specs.Prelude.{◌≡◌, ◌≤◌, ◌<◌, ◌++◌, ◌∷◌, [], All, IfOk, OnOk, Some, codes, length, slice_get, string_bytes};
+ghost use Rattle.std.specs.Prelude.{◌≡◌, ◌≤◌, ◌<◌, ◌++◌, ◌∷◌, [], All, IfOk, OnOk, Some, codes, length, map, slice_get, string_bytes};
 ghost use Rattle.bf_explain.specs.ByHand.{AreHandLines, index_in};
 ghost use Rattle.bf_explain.specs.Headings.{heading_of_state, instance_in, place_in};
 ghost use Rattle.bf_explain.specs.Sections.{section};
@@ -16,6 +16,7 @@ use crate::own::add_own_sections;
 use crate::paths::Paths;
 use crate::sections::{add_section, lines_text};
 use crate::why_section::{roots_if_untried, why_and_where};
+use bf_moment::Moment;
 use bf_plan::Plan;
 use bf_reason::{Settled, settled_tasks};
 use bf_report::{Report, RunReport};
@@ -58,12 +59,14 @@ fn heading_and_why_lines(
 }
 
 /// All lines that explain task number `task` in run number `run`, or only its instance of map index `index` where one
-/// is given, without line feeds. `told_run` is that run of the report, `settled` its tasks and `told` this task.
+/// is given, without line feeds. `clocks` are what the clocks of the graph's zone show at the start of each run,
+/// `told_run` is that run of the report, `settled` its tasks and `told` this task.
 fn explanation_lines(
     alloc: Global,
     paths: &Paths,
     plan: &Plan,
     report: &Report,
+    clocks: &[Moment],
     run: u32,
     told_run: &RunReport,
     settled: &[Settled<'_>],
@@ -76,8 +79,9 @@ fn explanation_lines(
     requires few { All (λ run. All IsFewTask run.tasks) report.now.runs }
     requires runs { length report.now.runs ≤ 4_096 }
     requires tasks { settled.now ≡ told_run.now.tasks }
-    ensures { IfOk result (λ lines. AreTaskLines paths.now plan.now.dag report.now run told_run.now
-        task told.now index lines.items) }
+    ensures { IfOk result (λ lines. AreTaskLines paths.now plan.now.dag report.now
+        (map (λ clock. clock.at.nanosecond) clocks.now) run told_run.now task told.now index
+        lines.items) }
 {
     let place = place_of(index);
     let roots = roots_if_untried(alloc, plan, report, run, task, told)?;
@@ -89,12 +93,13 @@ fn explanation_lines(
         plan,
         told_run,
         report.version,
+        clocks,
         run,
         task,
         at,
         instance,
     )?;
-    let clear = clear_lines(alloc, paths, plan, report, run, task, roots)?;
+    let clear = clear_lines(alloc, paths, plan, report, run, task, told, index, roots)?;
     let mut lines = heading_and_why_lines(
         alloc, plan, report, run, told_run, settled, task, told, place, roots,
     )?;
@@ -107,13 +112,14 @@ fn explanation_lines(
 
 /// The text that explains a task in run number `run`, or only its instance of map index `index` where one is given: why
 /// it has its state, what it pushed and was given, how its last try is run by hand, and which command clears it.
-/// `paths` are the files that this command names, and `told_run` is the run. Each run has the plan's tasks, and no task
-/// has more than 1,024 instances.
+/// `paths` are the files that this command names, `clocks` what the clocks of the graph's zone show at the start of each
+/// run, and `told_run` is the run. Each run has the plan's tasks, and no task has more than 1,024 instances.
 pub fn explain_task(
     alloc: Global,
     paths: &Paths,
     plan: &Plan,
     report: &Report,
+    clocks: &[Moment],
     run: u32,
     told_run: &RunReport,
     task: u32,
@@ -127,13 +133,14 @@ pub fn explain_task(
     ensures { IfOk result (λ text. (told : TaskReport) → slice_get told_run.now.tasks task
         ≡ Some told
         →
-        IsTaskText paths.now plan.now.dag report.now run told_run.now task told index
+        IsTaskText paths.now plan.now.dag report.now
+        (map (λ clock. clock.at.nanosecond) clocks.now) run told_run.now task told index
         (string_bytes text)) }
 {
     let settled = settled_tasks(alloc, told_run.tasks.as_slice())?;
     let told = &settled[task as usize];
     let lines = explanation_lines(
-        alloc, paths, plan, report, run, told_run, &settled, task, told, index,
+        alloc, paths, plan, report, clocks, run, told_run, &settled, task, told, index,
     )?;
     lines_text(alloc, lines.as_slice())
 }

@@ -69,7 +69,7 @@ impl TimedPlan {
     }
 
     /// Answers the local time in the plan's zone at the start of each run, in order.
-    fn clocks(&self, alloc: Global, runs: &Runs) -> Result<Vec<Moment>, OutOfMemory>
+    pub fn clocks(&self, alloc: Global, runs: &Runs) -> Result<Vec<Moment>, OutOfMemory>
         ensures { IfOk result (λ clocks. (graph : List ℕ) (file : Option (List ℕ))
             → IsTimed graph file self.now.plan.schedule self.now.zone
             → AreClocksOf graph file runs.now (map (λ clock. clock.at.nanosecond) clocks.items)) }

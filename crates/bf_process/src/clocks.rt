@@ -46,11 +46,7 @@ pub fn clocks_of(
 
 /// Gives the clock in `clocks` of the run with this number, from 0; where there is none, the start of the run's data
 /// interval in UTC.
-pub(crate) fn clock_of_run<'a>(
-    clocks: &'a [Moment],
-    run: u32,
-    context: &'a JobContext<'a>,
-) -> &'a Moment
+pub fn clock_of_run<'a>(clocks: &'a [Moment], run: u32, context: &'a JobContext<'a>) -> &'a Moment
     ensures { result.now.at.nanosecond
         ≡ clock_of (map (λ clock. clock.at.nanosecond) clocks.entry.now) run context.entry.now }
 {

@@ -27,7 +27,7 @@ mod starter;
 mod tee;
 mod variable;
 
-pub use clocks::clocks_of;
+pub use clocks::{clock_of_run, clocks_of};
 pub use heard::Heard;
 pub use launching::Launching;
 pub use line::line_of;
@@ -35,3 +35,4 @@ pub use log_faults::LogFaults;
 pub use runner::ProcessRunner;
 pub use setting::{Setting, TryLogs};
 pub use starter::Starter;
+pub use variable::Variable;

@@ -18,7 +18,7 @@ use crate::log_faults::LogFaults;
 use crate::logs::{OpenLogs, OutputLog};
 use crate::setting::Setting;
 use crate::tee::Tee;
-use crate::variable::variables;
+use crate::variable::Variable;
 use bf_device::{Input, Output, Read, Write};
 use bf_failure::Detail;
 use bf_moment::Moment;
@@ -74,7 +74,7 @@ fn add_common_variables(
         (pairs_of context.now clock.now.at.nanosecond variables_of)) }
     ensures same { OnOk result (IsSameElse command.old command.new) }
 {
-    for variable in variables() {
+    for variable in Variable::all() {
         let value = variable.value(alloc, context, clock)?;
         add_variable(command, variable.name(), value.as_str())?;
     }

@@ -10,7 +10,7 @@ use std::alloc::Global;
 
 /// A variable of a try's environment. The last four are those that Airflow's operators set.
 #[derive(Clone, Copy, Debug, PartialEq, Eq)]
-pub(crate) enum Variable {
+pub enum Variable {
     DagId,
     TaskId,
     /// The run's logical date, which is the start of its data interval.
@@ -48,16 +48,16 @@ static VARIABLES: [Variable; 13] = [
     Variable::AirflowTryNumber,
 ];
 
-/// Gives all variables of a try but `BACKFILL_GIVEN`, which is set only where logs are kept.
-pub(crate) fn variables() -> &'static [Variable]
-    ensures { result.now ≡ variables_of }
-{
-    &VARIABLES
-}
-
 impl Variable {
+    /// Gives all variables of a try but `BACKFILL_GIVEN`, which is set only where logs are kept.
+    pub fn all() -> &'static [Variable]
+        ensures { result.now ≡ variables_of }
+    {
+        &VARIABLES
+    }
+
     /// Gives the variable's name, such as `BACKFILL_DAG_ID`.
-    pub(crate) fn name(self) -> &'static str
+    pub fn name(self) -> &'static str
         ensures { result.now ≡ variable_name self }
     {
         match self {
@@ -80,7 +80,7 @@ impl Variable {
     /// Gives the variable's value for a try, moments as `2024-02-14T00:00:00Z`, or as Airflow spells them where the
     /// variable is Airflow's. `clock` is what the clocks of the graph's zone show at the start of the try's run, from
     /// which the dates come.
-    pub(crate) fn value(
+    pub fn value(
         self,
         alloc: Global,
         context: &JobContext<'_>,

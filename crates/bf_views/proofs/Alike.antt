@@ -8,7 +8,8 @@ use Rattle.bf_check.specs.Schedules.{IsScheduled}
 use Rattle.bf_plan.specs.Checked.{Checked}
 use Rattle.bf_command_fault.specs.declared.fault.CommandFault.{CommandFault}
 use Rattle.bf_command_fault.specs.declared.fault.CommandFault.TheVariants.{Check, OutOfMemory, Read}
-use Rattle.bf_planning.specs.Graphs.{IsFaultIn, IsFileOf, IsGraph, IsPlanOf}
+use Rattle.bf_planning.specs.Graphs.{IsFaultIn, IsFileOf, IsGraph, IsPlanOf, IsTimed}
+use Rattle.bf_planning.specs.declared.plan.TimedPlan.{TimedPlan}
 use Rattle.bf_command_line.specs.declared.forms.GraphAsked.{GraphAsked}
 use Rattle.bf_disk.specs.Files.{AreReadable, Files}
 use Rattle.bf_input.specs.Inputs.{AreAlike, OfFiles, graph_paths}
@@ -39,6 +40,14 @@ module _ (read held : List ℕ) (one two : Option (List ℕ)) (alike : AreAlike 
 
   pub plan_of : (plan : Checked) → IsPlanOf read one plan → IsPlanOf held two plan
   plan_of plan is = record { draft = is.draft; graph_is = graph_of is.draft is.graph_is; dag = is.dag }
+
+  pub timed_of : (timed : TimedPlan) → IsTimed read one timed.plan.schedule timed.zone → IsTimed held two timed.plan.schedule timed.zone
+  timed_of timed is = record {
+    draft = is.draft;
+    graph_is = graph_of is.draft is.graph_is;
+    fires = is.fires;
+    zone_is = λ z lends. alike.means.to _ z (is.zone_is z lends);
+  }
 
 -- what is lent of files says as they do
 pub lent : (files : Files) (asked : GraphAsked) (bytes lent_bytes : List ℕ) (mine lent_mine : Option (List ℕ)) → lent_bytes ≡ bytes → lent_mine ≡ mine →

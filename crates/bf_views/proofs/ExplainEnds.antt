@@ -20,7 +20,8 @@ use Rattle.bf_views.specs.ExplainFaults.{IsExplainFault, IsExplainFaultAt, IsRef
 use Rattle.bf_views.specs.inner.ExplainFaults.{IsFaultOfAsked}
 use Rattle.bf_views.specs.Explanations.{IsExplainAnswer, IsExplanation, paths_asked}
 use Rattle.bf_views.specs.Planned.{HasGraph, IsPlanningFault}
-use Rattle.bf_views.specs.inner.Planned.{IsPlanned}
+use Rattle.bf_views.specs.inner.Clocks.{AreClocksBy}
+use Rattle.bf_views.specs.inner.Planned.{HasZoneOf, IsPlanned}
 use Rattle.bf_planning.specs.Wanting.{IsWanting}
 
 -- a text that means no moment
@@ -59,7 +60,7 @@ module _ (files : Files) (asked : ExplainAsked) (start : Timestamp) (means : Mea
 
   -- with what was read
   module _ (planned : Planned) (report : Report) (are : IsPlanned files asked.graph planned) (readable : AreReadable files (graph_paths asked.graph)) (is_read : IsReadOf (files (string_bytes asked.report)) report) where
-    refusal : (fault : CommandFault) → asked_fault planned.plan.dag report start.nanosecond asked.task ≡ Some fault → IsRefusal files asked start.nanosecond fault
+    refusal : (fault : CommandFault) → asked_fault planned.timed.plan.dag report start.nanosecond asked.task ≡ Some fault → IsRefusal files asked start.nanosecond fault
     refusal fault is = (
       (readable, is_read.readable),
       λ graph zone held_graph held told.
@@ -73,13 +74,13 @@ module _ (files : Files) (asked : ExplainAsked) (start : Timestamp) (means : Mea
           },
     )
 
-    asked_at : (fault : CommandFault) → IsFaultOfAsked planned.plan.dag report start.nanosecond asked.task fault → IsExplainFaultAt files asked start.nanosecond fault
+    asked_at : (fault : CommandFault) → IsFaultOfAsked planned.timed.plan.dag report start.nanosecond asked.task fault → IsExplainFaultAt files asked start.nanosecond fault
     asked_at OutOfMemory is = tt
     asked_at (Clear fault) is = refusal (Clear fault) is
     asked_at UnknownIndex is = refusal UnknownIndex is
     asked_at _ is = absurd is
 
-    pub asked_explains : (fault : CommandFault) → IsFaultOfAsked planned.plan.dag report start.nanosecond asked.task fault → IsExplainFault files asked fault
+    pub asked_explains : (fault : CommandFault) → IsFaultOfAsked planned.timed.plan.dag report start.nanosecond asked.task fault → IsExplainFault files asked fault
     asked_explains fault is = meant fault (asked_at fault is)
 
     writing_at : (fault : CommandFault) → IsWanting fault → IsExplainFaultAt files asked start.nanosecond fault
@@ -90,8 +91,9 @@ module _ (files : Files) (asked : ExplainAsked) (start : Timestamp) (means : Mea
     pub writing_explains : (fault : CommandFault) → IsWanting fault → IsExplainFault files asked fault
     writing_explains fault is = meant fault (writing_at fault is)
 
-    pub explain_answer : (text : List ℕ) → IsExplanation (paths_asked asked) planned.plan.dag report start.nanosecond asked.task text → IsExplainAnswer files asked text Status.Success
-    explain_answer text explains = record {
+    pub explain_answer : HasZoneOf files asked.graph planned → (clocks : List ℤ) → AreClocksBy planned.timed report clocks → (text : List ℕ)
+        → IsExplanation (paths_asked asked) planned.timed.plan.dag report clocks start.nanosecond asked.task text → IsExplainAnswer files asked text Status.Success
+    explain_answer zoned clocks by text explains = record {
       success = refl;
       start = start;
       means = means;
@@ -103,6 +105,8 @@ module _ (files : Files) (asked : ExplainAsked) (start : Timestamp) (means : Mea
             graph_says = plan.graph_is;
             report = report;
             report_says = is_read.says held told;
-            explains = subst (λ (d : Dag). IsExplanation (paths_asked asked) d report start.nanosecond asked.task text) plan.dag explains;
+            clocks = clocks;
+            clocks_are = by graph zone (zoned graph zone held_graph);
+            explains = subst (λ (d : Dag). IsExplanation (paths_asked asked) d report clocks start.nanosecond asked.task text) plan.dag explains;
           };
     }

@@ -79,7 +79,7 @@ module _ (files : Files) (asked : ShowAsked) (bounds : Bounds) (means : MeansBou
 
   -- the grid of what was read
   pub grid_answer : (canvas : Canvas) → is_reversed_in bounds ≡ false → (planned : Planned) (report : Report) → IsPlanned files asked.graph planned → AreReadable files (graph_paths asked.graph) → IsReadOf (files (string_bytes asked.report)) report →
-      is_of_graph planned.plan.dag report ≡ true → (text : List ℕ) → text ≡ grid_text (view_asked asked bounds canvas) planned.plan.dag report → IsGridAnswer canvas files asked text Status.Success
+      is_of_graph planned.timed.plan.dag report ≡ true → (text : List ℕ) → text ≡ grid_text (view_asked asked bounds canvas) planned.timed.plan.dag report → IsGridAnswer canvas files asked text Status.Success
   grid_answer canvas ordered planned report are readable is_read matches text is = record {
     success = refl;
     bounds = bounds;

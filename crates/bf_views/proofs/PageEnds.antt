@@ -80,7 +80,7 @@ module _ (files : Files) (asked : PageAsked) where
   report_page has _ is = absurd is
 
   module _ (planned : Planned) (report : Report) (are : IsPlanned files asked.graph planned) (readable : AreReadable files (graph_paths asked.graph)) (is_read : IsReadOf (files (string_bytes asked.report)) report) where
-    pub refusal_page : (fault : CommandFault) → IsRefusedBy (is_of_graph planned.plan.dag report) fault → IsPageFault files asked fault
+    pub refusal_page : (fault : CommandFault) → IsRefusedBy (is_of_graph planned.timed.plan.dag report) fault → IsPageFault files asked fault
     refusal_page OutOfMemory is = tt
     refusal_page (Clear ClearFault.ReportMismatch) is = refusal_fault files asked.graph (string_bytes asked.report) planned report are readable is_read (Clear ClearFault.ReportMismatch) is
     refusal_page _ is = absurd is
@@ -90,8 +90,8 @@ module _ (files : Files) (asked : PageAsked) where
     writing_page journal (CannotWrite n) is = ((readable, is_read.readable), journal)
     writing_page journal _ is = absurd is
 
-    module _ (matches : is_of_graph planned.plan.dag report ≡ true) where
-      pub journal_page : (fault : CommandFault) → IsNamedJournalFault files (journal_path asked) planned.plan.dag (intervals_in report.runs) fault → IsPageFault files asked fault
+    module _ (matches : is_of_graph planned.timed.plan.dag report ≡ true) where
+      pub journal_page : (fault : CommandFault) → IsNamedJournalFault files (journal_path asked) planned.timed.plan.dag (intervals_in report.runs) fault → IsPageFault files asked fault
       journal_page OutOfMemory is = tt
       journal_page (CannotRead path) is = inr (
         (readable, is_read.readable),
@@ -117,8 +117,8 @@ module _ (files : Files) (asked : PageAsked) where
       journal_page _ is = absurd is
 
       pub page_answer : AreReadable files (named_paths (journal_path asked)) → (times : List ℕ)
-          → ((journal : Option (List ℕ)) → IsHeldIfNamed files (journal_path asked) journal → AreTimesTold planned.plan.dag (intervals_in report.runs) journal times)
-          → (text : List ℕ) → IsPage (words_asked asked) planned.graph.items planned.plan.dag report times text → IsPageAnswer files asked text Status.Success
+          → ((journal : Option (List ℕ)) → IsHeldIfNamed files (journal_path asked) journal → AreTimesTold planned.timed.plan.dag (intervals_in report.runs) journal times)
+          → (text : List ℕ) → IsPage (words_asked asked) planned.graph.items planned.timed.plan.dag report times text → IsPageAnswer files asked text Status.Success
       page_answer journal_readable times tell text page = record {
         success = refl;
         readable = (readable, is_read.readable);

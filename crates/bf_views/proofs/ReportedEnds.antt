@@ -44,7 +44,7 @@ module _ (files : Files) (asked : GraphAsked) (path : List ℕ) where
 
   -- with what was read
   module _ (planned : Planned) (report : Report) (are : IsPlanned files asked planned) (readable : AreReadable files (graph_paths asked)) (is_read : IsReadOf (files path) report) where
-    pub refusal_fault : (fault : CommandFault) → IsRefusedBy (is_of_graph planned.plan.dag report) fault → IsReportedFault files asked path fault
+    pub refusal_fault : (fault : CommandFault) → IsRefusedBy (is_of_graph planned.timed.plan.dag report) fault → IsReportedFault files asked path fault
     refusal_fault OutOfMemory is = tt
     refusal_fault (Clear ClearFault.ReportMismatch) is = (
       (readable, is_read.readable),

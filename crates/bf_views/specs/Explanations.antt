@@ -17,9 +17,10 @@ use Rattle.bf_explain.specs.Runs.{run_text}
 use Rattle.bf_explain.specs.Tasks.{IsTaskText}
 use Rattle.bf_input.specs.Moments.{Means}
 use Rattle.bf_marks.specs.RowOrder.{order_of}
+use Rattle.bf_planning.specs.Clocks.{AreClocksOf}
 use Rattle.bf_planning.specs.Graphs.{IsGraph}
 use Rattle.bf_views.specs.Asked.{run_number, task_number}
-use Rattle.bf_views.specs.Matching.{is_of_graph}
+use Rattle.bf_views.specs.Matching.{intervals_in}
 use Rattle.bf_views.specs.Reported.{AreReportedReadable, OfReported}
 
 abbrev pub paths_asked : ExplainAsked → Paths
@@ -30,28 +31,30 @@ paths_asked asked = record {
 }
 
 -- the text on a task in a run of the report
-pub record IsTaskExplained (paths : Paths) (dag : Dag) (report : Report) (run : ℕ)
+pub record IsTaskExplained (paths : Paths) (dag : Dag) (report : Report) (clocks : List ℤ) (run : ℕ)
     (told_run : RunReport) (asked : TaskAsked) (text : List ℕ) : Type 0 where
   pub task : ℕ
   pub task_is : task_number dag asked ≡ Some task
   pub told : TaskReport
   pub told_is : slice_get told_run.tasks task ≡ Some told
-  pub text_is : IsTaskText paths dag report run told_run task told asked.index text
+  pub text_is : IsTaskText paths dag report clocks run told_run task told asked.index text
 
 -- of a run, whose tasks stand in the order of the grid, or of a task in it
-abbrev pub IsTextOn : Paths → Dag → Report → ℕ → RunReport → Option TaskAsked → List ℕ → Type 0
-IsTextOn paths dag report run told_run None text = text ≡ run_text dag told_run (order_of dag)
-IsTextOn paths dag report run told_run (Some task) text =
-    IsTaskExplained paths dag report run told_run task text
+abbrev pub IsTextOn : Paths → Dag → Report → List ℤ → ℕ → RunReport → Option TaskAsked → List ℕ
+    → Type 0
+IsTextOn paths dag report clocks run told_run None text =
+    text ≡ run_text dag told_run (order_of dag)
+IsTextOn paths dag report clocks run told_run (Some task) text =
+    IsTaskExplained paths dag report clocks run told_run task text
 
--- the text on what is asked of a report of the graph
-pub record IsExplanation (paths : Paths) (dag : Dag) (report : Report) (start : ℤ)
+-- the text on what is asked of a report of the graph, by what clocks show at the starts of its runs
+pub record IsExplanation (paths : Paths) (dag : Dag) (report : Report) (clocks : List ℤ) (start : ℤ)
     (task : Option TaskAsked) (text : List ℕ) : Type 0 where
   pub run : ℕ
   pub run_is : run_number report start ≡ Some run
   pub told_run : RunReport
   pub told_run_is : slice_get report.runs run ≡ Some told_run
-  pub text_is : IsTextOn paths dag report run told_run task text
+  pub text_is : IsTextOn paths dag report clocks run told_run task text
 
 -- by a graph without a fault and a report of it, which these bytes say
 pub record IsExplanationOf (paths : Paths) (start : ℤ) (task : Option TaskAsked) (graph : List ℕ)
@@ -60,7 +63,9 @@ pub record IsExplanationOf (paths : Paths) (start : ℤ) (task : Option TaskAske
   pub graph_says : IsGraph graph zone draft
   pub report : Report
   pub report_says : IsReadAs held report
-  pub explains : IsExplanation paths (dag_of draft) report start task text
+  pub clocks : List ℤ
+  pub clocks_are : AreClocksOf graph zone (intervals_in report.runs) clocks
+  pub explains : IsExplanation paths (dag_of draft) report clocks start task text
 
 pub record IsExplainAnswer (files : Files) (asked : ExplainAsked) (text : List ℕ)
     (status : Status) : Type 0 where

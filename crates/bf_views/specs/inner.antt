@@ -1,4 +1,5 @@
 pub mod Refused
+pub mod Clocks
 pub mod Planned
 pub mod Times
 pub mod ExplainFaults

@@ -1,5 +1,5 @@
 //! The command `explain`: why a run of a report, a task in it or an instance has its state.
-ghost use Rattle.std.specs.Prelude.{◌≡◌, ◌<◌, IfOk, IfErr, OnOk, Some, length, option_map, slice_get, string_bytes, true};
+ghost use Rattle.std.specs.Prelude.{◌≡◌, ◌<◌, ℤ, List, IfOk, IfErr, OnOk, Some, length, map, option_map, slice_get, string_bytes, true};
 ghost use Rattle.bf_command_fault.specs.Refusal.{Leaves, Sends};
 ghost use Rattle.bf_command_fault.specs.declared.status.Status.{Status};
 ghost use Rattle.bf_device.specs.Device.{HasHalted, sent};
@@ -12,6 +12,7 @@ ghost use Rattle.bf_views.specs.Matching.{is_of_graph};
 
 use crate::matching::refuse_other_graph;
 use crate::planned::read_plan;
+use crate::times::clocks_of;
 use bf_command_fault::{CommandFault, Status};
 use bf_command_line::{ExplainAsked, TaskAsked};
 use bf_dependents::ClearFault;
@@ -20,6 +21,7 @@ use bf_disk::Source;
 use bf_explain::{Paths, explain_run, explain_task, has_index};
 use bf_input::{moment_of, read_report_file};
 use bf_marks::tasks_in_order;
+use bf_moment::Moment;
 use bf_plan::Plan;
 use bf_report::{Report, RunReport};
 use bf_value::{OutOfMemory, Text};
@@ -76,8 +78,9 @@ fn explain_run_at(
     start: Timestamp,
 ) -> Result<String, CommandFault>
     requires { IsShownReport report.now }
-    ensures text { (paths : Paths) → IfOk result (λ text. IsExplanation paths plan.now.dag
-        report.now start.nanosecond None (string_bytes text)) }
+    ensures text { (paths : Paths) (clocks : List ℤ) → IfOk result (λ text.
+        IsExplanation paths plan.now.dag report.now clocks start.nanosecond None
+        (string_bytes text)) }
     ensures fault { IfErr result (IsFaultOfAsked plan.now.dag report.now start.nanosecond None) }
 {
     let Some(run) = run_number_at(report, start) else {
@@ -89,19 +92,22 @@ fn explain_run_at(
     Ok(explain_run(alloc, plan, told_run, order.as_slice())?)
 }
 
-/// Explains a task, or one instance of it, in the run that starts at the moment `start`. `Err` where there is no such
+/// Explains a task, or one instance of it, in the run that starts at the moment `start`; `clocks` are what the clocks of
+/// the graph's zone show at the start of each run. `Err` where there is no such
 /// task, run or map index, the report isn't of this graph, or memory runs out.
 fn explain_task_at(
     alloc: Global,
     paths: &Paths,
     plan: &Plan,
     report: &Report,
+    clocks: &[Moment],
     start: Timestamp,
     asked: &TaskAsked,
 ) -> Result<String, CommandFault>
     requires { IsShownReport report.now }
     ensures text { IfOk result (λ text. IsExplanation paths.now plan.now.dag report.now
-        start.nanosecond (Some asked.now) (string_bytes text)) }
+        (map (λ clock. clock.at.nanosecond) clocks.now) start.nanosecond (Some asked.now)
+        (string_bytes text)) }
     ensures fault { IfErr result (IsFaultOfAsked plan.now.dag report.now start.nanosecond
         (Some asked.now)) }
 {
@@ -118,7 +124,7 @@ fn explain_task_at(
     }
     let index = asked.index;
     Ok(explain_task(
-        alloc, paths, plan, report, run as u32, told_run, task, index,
+        alloc, paths, plan, report, clocks, run as u32, told_run, task, index,
     )?)
 }
 
@@ -129,17 +135,19 @@ fn explain_run_or_task(
     paths: &Paths,
     plan: &Plan,
     report: &Report,
+    clocks: &[Moment],
     start: Timestamp,
     task: &Option<TaskAsked>,
 ) -> Result<String, CommandFault>
     requires { IsShownReport report.now }
     ensures text { IfOk result (λ text. IsExplanation paths.now plan.now.dag report.now
-        start.nanosecond task.now (string_bytes text)) }
+        (map (λ clock. clock.at.nanosecond) clocks.now) start.nanosecond task.now
+        (string_bytes text)) }
     ensures fault { IfErr result (IsFaultOfAsked plan.now.dag report.now start.nanosecond
         task.now) }
 {
     match task {
-        Some(task) => explain_task_at(alloc, paths, plan, report, start, task),
+        Some(task) => explain_task_at(alloc, paths, plan, report, clocks, start, task),
         None => explain_run_at(alloc, plan, report, start),
     }
 }
@@ -167,7 +175,9 @@ pub fn answer_explain<S: Source, W: Write>(
     let paths = paths_of(alloc, &asked)?;
     let planned = read_plan(alloc, asked.graph, files)?;
     let report = read_report_file(alloc, asked.report, files)?;
-    let text = explain_run_or_task(alloc, &paths, &planned.plan, &report, start, &asked.task);
+    let clocks = clocks_of(alloc, &planned.timed, &report)?;
+    let plan = &planned.timed.plan;
+    let text = explain_run_or_task(alloc, &paths, plan, &report, &clocks, start, &asked.task);
     drop(report);
     drop(planned);
     send(out, text?.as_bytes())?;

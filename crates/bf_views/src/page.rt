@@ -103,18 +103,18 @@ fn write_report_page<W: Write>(
     out: &mut W,
 ) -> Result<(), CommandFault>
     requires rules { IsShownReport report.now }
-    requires matches { is_of_graph planned.now.plan.dag report.now ≡ true }
+    requires matches { is_of_graph planned.now.timed.plan.dag report.now ≡ true }
     ensures page { OnOk result (Sends
-        (IsPage words.now planned.now.graph.items planned.now.plan.dag report.now times.now)
+        (IsPage words.now planned.now.graph.items planned.now.timed.plan.dag report.now times.now)
         (W.written out.old) (W.written out.new)) }
     ensures fault { IfErr result IsWanting }
     ensures left { IfErr result (Leaves (HasHalted (W.failures out.old) (W.failures out.new)
         (W.interruptions out.old) (W.interruptions out.new))
-        (IsPage words.now planned.now.graph.items planned.now.plan.dag report.now times.now)
+        (IsPage words.now planned.now.graph.items planned.now.timed.plan.dag report.now times.now)
         (W.written out.old) (W.written out.new)) }
 {
     let bytes = report_bytes(alloc, report)?;
-    let cells = cells_of(alloc, &planned.plan, report, bytes.len() as u64)?;
+    let cells = cells_of(alloc, &planned.timed.plan, report, bytes.len() as u64)?;
     let texts = PageTexts {
         graph_path: words.graph.as_str(),
         report_path: words.report.as_str(),
@@ -157,8 +157,8 @@ fn write_page_if_matching<S: Source, W: Write>(
         (λ text. (status : Status) × IsPageAnswer (S.file files.old) asked text status)
         (W.written out.old) (W.written out.new)) }
 {
-    refuse_other_graph(alloc, planned.plan.dag(), report)?;
-    let times = read_times(alloc, journal, &planned.plan, report, files)?;
+    refuse_other_graph(alloc, planned.timed.plan.dag(), report)?;
+    let times = read_times(alloc, journal, &planned.timed.plan, report, files)?;
     write_report_page(alloc, words, planned, report, times.as_str(), out)?;
     Ok(Status::Success)
 }

@@ -93,8 +93,8 @@ fn write_grid_if_matching<W: Write>(
         (λ text. (status : Status) × IsGridAnswer canvas files asked text status)
         (W.written out.old) (W.written out.new)) }
 {
-    refuse_other_graph(alloc, planned.plan.dag(), report)?;
-    write_view(alloc, view, &planned.plan, report, out)?;
+    refuse_other_graph(alloc, planned.timed.plan.dag(), report)?;
+    write_view(alloc, view, &planned.timed.plan, report, out)?;
     Ok(Status::Success)
 }
 

@@ -1,9 +1,10 @@
-//! The times of the journal that a line names.
-ghost use Rattle.std.specs.Prelude.{◌≡◌, List, Option, ℕ, IfOk, IfErr, OnOk, option_map, string_bytes};
+//! The times of the journal that a line names, and the clocks of the graph's zone.
+ghost use Rattle.std.specs.Prelude.{◌≡◌, List, Option, ℕ, IfOk, IfErr, OnOk, map, option_map, string_bytes};
 ghost use Rattle.bf_disk.specs.Files.{AreReadable, IsHeldIfNamed, named_paths};
 ghost use Rattle.bf_report_reader.specs.Rules.{IsShownReport};
 ghost use Rattle.bf_views.specs.Matching.{intervals_in};
 ghost use Rattle.bf_views.specs.Times.{AreTimesTold, IsJournalFault};
+ghost use Rattle.bf_views.specs.inner.Clocks.{AreClocksBy};
 ghost use Rattle.bf_views.specs.inner.Times.{IsNamedJournalFault};
 
 use crate::matching::intervals_of;
@@ -11,7 +12,9 @@ use bf_command_fault::CommandFault;
 use bf_disk::Source;
 use bf_input::read_named_journal;
 use bf_interval::Runs;
+use bf_moment::Moment;
 use bf_plan::Plan;
+use bf_planning::TimedPlan;
 use bf_report::Report;
 use bf_times::times_of;
 use bf_value::OutOfMemory;
@@ -24,6 +27,20 @@ fn runs_of(alloc: Global, report: &Report) -> Result<Runs, OutOfMemory>
 {
     let intervals = intervals_of(alloc, report.runs.as_slice())?;
     Ok(Runs::from_intervals(intervals))
+}
+
+/// Gives what the clocks of the graph's zone show at the start of each run of a report, in order.
+pub(crate) fn clocks_of(
+    alloc: Global,
+    timed: &TimedPlan,
+    report: &Report,
+) -> Result<Vec<Moment>, OutOfMemory>
+    requires { IsShownReport report.now }
+    ensures { IfOk result (λ clocks.
+        AreClocksBy timed.now report.now (map (λ clock. clock.at.nanosecond) clocks.items)) }
+{
+    let runs = runs_of(alloc, report)?;
+    timed.clocks(alloc, &runs)
 }
 
 /// Gives the times of the tries in a journal's bytes, as text for the page; empty where there is no journal. `Err`

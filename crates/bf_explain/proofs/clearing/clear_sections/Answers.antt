@@ -1,7 +1,7 @@
-use Rattle.std.proofs.Common.{◌≡◌, List, [], ℕ, ◌++◌, drop, get_or, refl, subst, sym, ap, ◌∙◌, append_assoc, append-nil}
+use Rattle.std.proofs.Common.{None, ◌≡◌, List, [], ℕ, ◌++◌, drop, get_or, refl, subst, sym, ap, ◌∙◌, append_assoc, append-nil}
 use Rattle.std.proofs.lemmas.List.{drop_all, get_or_default}
 use Rattle.bf_dependents.specs.declared.place.Place.{Place}
-use Rattle.bf_explain.specs.Clearing.{AreClearSections, IsClearSection, place_in}
+use Rattle.bf_explain.specs.Clearing.{AreClearSections, IsClearSection}
 use Rattle.bf_explain.proofs.SectionFacts.{section_more}
 use Rattle.bf_explain.proofs.clearing.clear_sections.Goals as goal
 
@@ -10,7 +10,7 @@ loop-place-preserved c = λ rest behind.
     let paths = c.args.paths.now in let dag = c.args.plan.now.dag in let report = c.args.report.now in
     let run = c.args.run in let task = c.args.task in
     let places = c.args.places.now in let index = c.loop-place.place-index in
-    let other : Place = place_in 0 0 in
+    let other : Place = record { run = 0; task = 0; index = None } in
     let more : List (List ℕ) = c.in_ok-more.more.items in
     let here : IsClearSection paths dag report run task (get_or places index other) more =
     subst (λ (p : Place). IsClearSection paths dag report run task p more) (get_or_default places index _ other c.loop-place-test.true) c.in_ok-more.ensures in

@@ -1,4 +1,4 @@
-use Rattle.std.proofs.Common.{◌≡◌, ap, sym, ◌∙◌, subst}
+use Rattle.std.proofs.Common.{◌≡◌, map, ap, sym, ◌∙◌, subst}
 use Rattle.std.specs.Prelude.{slice_index_or}
 use Rattle.std.proofs.lemmas.Result.{IfOk-weaker}
 use Rattle.bf_report.specs.declared.report.TaskReport.{TaskReport}
@@ -15,7 +15,7 @@ returns c =
     IfOk-weaker c.lines_text.result _ _
     (λ text is. λ wanted there. (
       c.in_ok-lines.lines.items,
-      subst (λ (t : TaskReport). AreTaskLines c.args.paths.now c.args.plan.now.dag c.args.report.now c.args.run c.args.told_run.now c.args.task t c.args.index c.in_ok-lines.lines.items)
+      subst (λ (t : TaskReport). AreTaskLines c.args.paths.now c.args.plan.now.dag c.args.report.now (map (λ clock. clock.at.nanosecond) c.args.clocks.now) c.args.run c.args.told_run.now c.args.task t c.args.index c.in_ok-lines.lines.items)
           (sym (told_there tasks c.args.task wanted told there read)) c.in_ok-lines.ensures,
       is ∙ ap lines_text_of c.as_slice-2.ensures.value,
     )) c.lines_text.ensures

@@ -11,7 +11,7 @@ explain_run-requires-clause-short c =
     subst (λ (order : List ℕ). length order ≤ 20_000) (sym (c.as_slice-2.ensures.value ∙ c.in_ok-order.ensures ∙ ap order_of c.dag-2.ensures.dag)) (order_fits c.args.plan.now.dag c.dag-2.ensures.sound)
 
 pub returns-clause-text : goal.returns-clause-text
-returns-clause-text c = λ paths.
+returns-clause-text c = λ paths clocks.
     let told_run = c.index-as_slice-run.result in
     record {
       run = c.in-Some.run';

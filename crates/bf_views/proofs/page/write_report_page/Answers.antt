@@ -8,14 +8,14 @@ use Rattle.bf_views.proofs.PageEnds.{err_is, is_writing, write_leaves}
 use Rattle.bf_views.proofs.page.write_report_page.Goals as goal
 
 pub cells_of-requires-clause-tasks : goal.cells_of-requires-clause-tasks
-cells_of-requires-clause-tasks g c = all_tasks c.args.planned.now.plan.dag c.args.report.now c.requires.matches
+cells_of-requires-clause-tasks g c = all_tasks c.args.planned.now.timed.plan.dag c.args.report.now c.requires.matches
 
 pub returns-in_err-write_page-clause-fault : goal.returns-in_err-write_page-clause-fault
 returns-in_err-write_page-clause-fault g c = err_is _ _ _ c.from_residual-in_err-write_page.ensures.1 (is_writing _ c.in_err-write_page.ensures.only_io)
 
 pub returns-in_err-write_page-clause-left : goal.returns-in_err-write_page-clause-left
 returns-in_err-write_page-clause-left g c =
-    let dag = c.args.planned.now.plan.dag in let report = c.args.report.now in
+    let dag = c.args.planned.now.timed.plan.dag in let report = c.args.report.now in
     let texts : PageTexts = record { graph_path = c.as_str.result; report_path = c.as_str-2.result; zone_path = c.as_str-3.result; cells = c.as_str-4.result; graph = c.deref.result; report = c.report_as_shown.result; times = c.args.times } in
     let size : c.len.result ≡ length c.in_ok-bytes.bytes.items = omega (arith, c.len.ensures, c.in_ok-bytes.bytes.ok.0) in
     let tells : AreTextsOf c.args.words.now c.args.planned.now.graph.items dag report c.args.times.now texts = record {
@@ -32,7 +32,7 @@ returns-in_err-write_page-clause-left g c =
 
 pub returns-clause-page : goal.returns-clause-page
 returns-clause-page g c =
-    let dag = c.args.planned.now.plan.dag in let report = c.args.report.now in
+    let dag = c.args.planned.now.timed.plan.dag in let report = c.args.report.now in
     let texts : PageTexts = record { graph_path = c.as_str.result; report_path = c.as_str-2.result; zone_path = c.as_str-3.result; cells = c.as_str-4.result; graph = c.deref.result; report = c.report_as_shown.result; times = c.args.times } in
     let size : c.len.result ≡ length c.in_ok-bytes.bytes.items = omega (arith, c.len.ensures, c.in_ok-bytes.bytes.ok.0) in
     let tells : AreTextsOf c.args.words.now c.args.planned.now.graph.items dag report c.args.times.now texts = record {

@@ -1,4 +1,4 @@
-use Rattle.bf_views.proofs.Alike.{lent, plan_of, timed_fault}
+use Rattle.bf_views.proofs.Alike.{lent, plan_of, timed_fault, timed_of}
 use Rattle.bf_views.proofs.PageEnds.{err_is}
 use Rattle.bf_views.proofs.planned.read_plan.Goals as goal
 
@@ -14,3 +14,9 @@ returns-clause-plan g c = λ graph zone are.
     let alike = lent files c.args.asked _ c.deref.result.now _ _ c.deref.ensures.value c.zone_file.ensures c.in_ok-files.ensures.alike in
     let plan = plan_of c.deref.result.now graph _ zone (alike graph zone are) _ c.in_ok-timed.ensures.plan in
     (c.in_ok-files.ensures.whole graph zone are _ plan.graph_is.says, plan)
+
+pub returns-clause-zone : goal.returns-clause-zone
+returns-clause-zone g c = λ graph zone are.
+    let files = g.S.Source.file c.args.files.now in
+    let alike = lent files c.args.asked _ c.deref.result.now _ _ c.deref.ensures.value c.zone_file.ensures c.in_ok-files.ensures.alike in
+    timed_of c.deref.result.now graph _ zone (alike graph zone are) c.in_ok-timed.timed c.in_ok-timed.ensures.zone
