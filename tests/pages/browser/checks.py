@@ -21,8 +21,8 @@ import timing
 
 TEXTS = ["graph-path", "report-path", "zone-path", "cells", "graph", "report", "times"]
 FORBIDDEN = {"img", "iframe", "object", "embed", "link", "base", "form"}
-# What would move a terminal's text or turn it stands escaped.
-MOVES = re.compile("[\x7f-\x9f\xad\u061c\u200b-\u200f\u2028-\u202e\u2060-\u206f\ufeff\ufff9-\ufffb]")
+# What would move a terminal's text or turn it, or isn't seen, stands escaped.
+MOVES = re.compile("[" + "".join(f"{chr(first)}-{chr(last)}" for first, last in explaining.UNSEEN) + "]")
 # A text of the details this long is cut.
 SHORT = 4000
 # Whether each place of a large page is looked at, and not each tenth.
@@ -131,7 +131,7 @@ def plain(text):
 
 def shown(value):
     """A value as the page shows it."""
-    return MOVES.sub(lambda m: f"\\u{ord(m[0]):04x}", value)
+    return MOVES.sub(lambda m: explaining.escape(m[0]), value)
 
 
 def lasted(ms):
@@ -197,7 +197,20 @@ class Sample:
         addresses = list(self.addresses())
         step = 1 if WHOLE or len(addresses) < 100 else 10
         for place, instance, where in addresses[::step]:
-            yield place, instance, list(self.explaining.why(*where))
+            yield place, instance, list(self.explaining.why(*where)), self.lines_of(instance, *where)
+
+    def lines_of(self, instance, at, task, index):
+        """The lines to copy: those that clear something, and the one that runs the instance by hand, below their headings. None where a zone
+        file is named, whose path the second reading isn't told."""
+        if self.texts[2]:
+            return None
+        lines = {}
+        for heading, [line] in self.explaining.clears(at, task, index):
+            name, _, follows = heading.partition(", with ")
+            lines["C" + name[1:]] = [line, "with " + follows]
+        if instance and instance.tries:
+            lines |= {"By hand": [line] for line in self.explaining.by_hand(at, task, instance)}
+        return {heading: texts for heading, texts in lines.items() if len(texts[0]) < SHORT}
 
 
 def details_of(instance):
@@ -230,8 +243,11 @@ def looks_at_details(browser, sample):
     name, places = sample.folder.name, list(sample.places())
     found = browser.script(DETAILS.replace("PLACES", json.dumps([place for place, *_ in places])), True) if places else []
     is_same(f"{name}: how many details", len(places), len(found))
-    for (place, instance, why), details in zip(places, found):
+    for (place, instance, why, lines), details in zip(places, found):
         is_same(f"{name}: why {place} is so", why, details["parts"].get("Why"))
+        if lines is not None:
+            shown_lines = {part: texts for part, texts in details["parts"].items() if part == "By hand" or part.startswith("Clear")}
+            is_same(f"{name}: the lines of {place}", lines, {part: texts for part, texts in shown_lines.items() if len(texts[0]) < SHORT})
         if instance is None:
             continue
         wanted = details_of(instance)
@@ -261,7 +277,7 @@ def looks_at_graph(browser, sample):
 
 def looks_at_tries(browser, sample):
     """The details of each instance have its tries, which took at least as long as they slept; the Gantt of a run has a bar for each."""
-    instances = [(place, instance) for place, instance, _ in sample.places() if instance]
+    instances = [(place, instance) for place, instance, *_ in sample.places() if instance]
     browser.open(sample.address)
     found = browser.script(TRIES.replace("PLACES", json.dumps([place for place, _ in instances])), True)
     for (place, instance), lines in zip(instances, found):
@@ -508,7 +524,7 @@ def looks_at_copies(browser, samples):
     browser.call("Browser.grantPermissions", permissions=["clipboardReadWrite", "clipboardSanitizedWrite"])
     browser.open(f"{warehouse.address}#2024-01-25T00:00:00Z/load_shop/1")
     browser.script("[...document.querySelectorAll('aside h3')].find(h => h.textContent.startsWith('Clear')).querySelector('button').click()")
-    wanted = ("backfill clear --from 2024-01-01 --to 2024-03-30 --task load_shop --run 2024-01-25 warehouse/graph.json warehouse/report"
+    wanted = ("backfill clear --from 2024-01-01 --to 2024-03-30 --task load_shop --run 2024-01-25 --index 1 warehouse/graph.json warehouse/report"
               " > warehouse/report.new")
     is_same("the line that is copied", wanted, waits_for(browser, "navigator.clipboard.readText()", lambda found: found == wanted))
     with tempfile.TemporaryDirectory() as folder:

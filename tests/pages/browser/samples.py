@@ -110,7 +110,7 @@ def hostile():
     """Values and ids that a reader of HTML, of URLs or of JavaScript could take for something else."""
     values = [
         "</script><script>alert(1)</script>", "<!--<script>", "%3c%25%0d", "a\u2028b\u2029c", "\"'`&amp;&lt;", "\\u003c", "\u202egnp.exe", "\x9b31m\x85",
-        "\u0007\u001b[31mred", "\ufeffx\ufffe", "<img src=x onerror=alert(1)>", "]]>", "\U0001f600 \ud55c\uad6d", "a\tb\r\nc", "-", "'; rm -rf ~; '",
+        "\u0007\u001b[31mred", "\ufeffx\ufffe", "<img src=x onerror=alert(1)>", "]]>", "\U0001f600 \ud55c\uad6d", "a\tb\r\nc", "-", "'; rm -rf ~; '", "\U000e0041\u3164\ufe0f\u034f",
     ]
     tasks = [
         {"id": "list", "command": ["echo", "</script><b>%3c"]},

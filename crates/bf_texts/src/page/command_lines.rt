@@ -6,15 +6,13 @@ pub const SCRIPT: &str = r##"// ---- lines to copy
 const option = (name, word) => word.startsWith('-') ? [`${name}=${word}`] : [name, word];
 const zone = zonePath ? option('--zone-file', zonePath) : [];
 const paths = [...(graphPath.startsWith('-') || reportPath.startsWith('-') ? ['--'] : []), graphPath, reportPath];
-const clearLine = (r, t) => {
+const seed = (r, t, i) => [...option('--task', ids[t]), '--run', short(starts[r]), ...(i < 0 ? [] : ['--index', String(i)])];
+const clearLine = (r, t, i) => {
   const range = ['--from', short(starts[0]), '--to', short(starts[R - 1])];
-  const line = ['backfill', 'clear', ...zone, ...range, ...option('--task', ids[t]), '--run', short(starts[r]), ...paths];
+  const line = ['backfill', 'clear', ...zone, ...range, ...seed(r, t, i), ...paths];
   return `${line.map(quoted).join(' ')} > ${quoted(reportPath + '.new')}`;
 };
-const explainLine = (r, t, i) => {
-  const index = i < 0 ? [] : ['--index', String(i)];
-  return ['backfill', 'explain', ...zone, ...option('--task', ids[t]), '--run', short(starts[r]), ...index, ...paths].map(quoted).join(' ');
-};
+const explainLine = (r, t, i) => ['backfill', 'explain', ...zone, ...seed(r, t, i), ...paths].map(quoted).join(' ');
 // How many tasks a clear would clear, in how many runs.
 const cleared = (r, t) => {
   let level = new Set([t]), places = 0, runs = 0;
@@ -25,7 +23,19 @@ const cleared = (r, t) => {
   }
   return `${plural(places, 'task')} in ${plural(runs, 'run')}`;
 };
-// The words of an instance's last try; null where they aren't known.
+// What sets the variables of a try that these words name; null where one is a date, which the page knows in UTC alone.
+const settingsOf = (r, t, {index, tries}, words) => {
+  const [date] = starts[r].split('T'), airflow = starts[r].replace('Z', '+00:00');
+  const variables = {
+    BACKFILL_DAG_ID: dagId, BACKFILL_TASK_ID: ids[t], BACKFILL_RUN: starts[r], BACKFILL_DATE: date, BACKFILL_DATE_NODASH: date.replaceAll('-', ''),
+    BACKFILL_INTERVAL_START: starts[r], BACKFILL_INTERVAL_END: ends[r], BACKFILL_MAP_INDEX: index, BACKFILL_TRY_NUMBER: tries,
+    AIRFLOW_CTX_DAG_ID: dagId, AIRFLOW_CTX_TASK_ID: ids[t], AIRFLOW_CTX_EXECUTION_DATE: airflow, AIRFLOW_CTX_TRY_NUMBER: tries,
+  };
+  const named = Object.keys(variables).filter(name => words.some(word => word.includes(name)));
+  if ((graph.zone || 'UTC') !== 'UTC' && named.includes('BACKFILL_DATE')) return null;
+  return named.length ? `env ${named.map(name => `${name}=${quoted(String(variables[name]))} `).join('')}` : '';
+};
+// The words of an instance's last try, behind the variables that they name; null where they aren't known.
 const byHand = (r, t, {index, tries, item, pulls}) => {
   const {command} = tasks[t];
   if (!command.length || !tries || command.some(word => word.item || word.pull !== undefined) && !tellsGiven()) return null;
@@ -40,7 +50,8 @@ const byHand = (r, t, {index, tries, item, pulls}) => {
     const value = word.item ? item : (pulls.find(([id]) => id === word.pull) || [0, '-'])[1];
     return value === '-' ? '' : value[0] === '"' ? JSON.parse(value) : value;
   };
-  return command.map(word => quoted(text(word))).join(' ');
+  const words = command.map(text), settings = settingsOf(r, t, {index, tries}, words);
+  return settings === null ? null : settings + words.map(quoted).join(' ');
 };
 
 "##;

@@ -71,14 +71,20 @@ const givenBoxes = (r, t, instance) => {
   if (line !== null) out.push(...textBox('By hand', line));
   return out;
 };
-const clearBoxes = (r, t, roots) => {
+const hasFailure = (r, t, i) => i < 0 ? hasAny(r, t, [FAILED, UPSTREAM_FAILED, NO_STATUS]) : stateOf[codeAt(r, t, i)] === FAILED;
+// Where it began, or itself; of what has no failure just where a failure began.
+const placesToClear = (r, t, i, roots) => {
+  const own = hasFailure(r, t, i), began = own ? roots : roots.filter(([, , what]) => what === 'failed');
+  return own && !began.length ? [[r, t, i]] : began.slice(0, 3).map(([root, u]) => [root, u, -1]);
+};
+const clearBoxes = (r, t, i, roots) => {
   if (starts[r] === ends[r]) return [];
-  const again = [...new Map(roots.map(([root, u]) => [root * T + u, [root, u]])).values()].slice(0, 3);
-  return (again.length ? again : [[r, t]]).flatMap(([root, u]) => {
+  return placesToClear(r, t, i, roots).flatMap(([root, u, index]) => {
     const title = root === r && u === t ? 'Clear' : `Clear ${ids[u]}${inTheRun(r, root)}`;
-    return [...textBox(title, clearLine(root, u)), h('p', {className: 'muted'}, `with what follows from it: ${cleared(root, u)}`)];
+    return [...textBox(title, clearLine(root, u, index)), h('p', {className: 'muted'}, `with what follows from it: ${cleared(root, u)}`)];
   });
 };
+const isHandUntold = (r, t, instance) => instance && instance.tries && tasks[t].command.length && byHand(r, t, instance) === null;
 const tryLine = ({attempt, start, end, exit}) =>
   h('li', {}, muted(`try ${attempt}`), h('span', {}, momentOf(start), h('br'), `${lasted(end - start)}, ${codeWords(exit)}`));
 const tryLines = (r, t, i) => {
@@ -102,8 +108,8 @@ const instanceDetails = (r, t, i) => {
     ...(instance ? givenBoxes(r, t, instance) : []),
     ...(up[t].length ? titled('Upstream', ...shortened(up[t], 12, taskLine(r))) : []),
     ...(down[t].length ? titled('Downstream', ...shortened(down[t], 12, taskLine(r))) : []),
-    ...clearBoxes(r, t, roots),
-    ...(!hasReport || isOdd(codeOf(r, t)) ? textBox('Explain', explainLine(r, t, i)) : []),
+    ...clearBoxes(r, t, i, roots),
+    ...(!hasReport || isOdd(codeOf(r, t)) || isHandUntold(r, t, instance) ? textBox('Explain', explainLine(r, t, i)) : []),
     steps(r, t, i),
   ];
 };

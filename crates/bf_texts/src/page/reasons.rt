@@ -21,8 +21,10 @@ const SINCE = {
 };
 const SAYS = {r: 'run', u: 'upstream_failed', k: 'skipped'};
 const BECAME = ['was a success', 'failed', 'was upstream_failed', 'was skipped', 'had no status'];
-// The rules by which a skipped upstream is what skips.
-const SKIPPED_BY_SKIPPED = ['all_success', 'one_success', 'none_failed_min_one_success', 'none_skipped'];
+// The states of upstreams for which a rule skips. Those of a success are left out, since nothing began there.
+const SKIPS_FOR = {
+  all_success: [3], all_failed: [3], all_skipped: [1, 2], one_success: [3], one_done: [2, 3], none_failed_min_one_success: [3], none_skipped: [3],
+};
 const having = (r, t, states) => up[t].filter(u => hasAny(r, u, states));
 const blockedUp = (r, t, branches) => up[t].filter(u => hasNoStatus(r, u) && (!branches || tasks[u].kind === 'branch'));
 const haveNoStatus = names => `${listed(names)} ${names.length === 1 ? 'has' : 'have'} no status`;
@@ -121,8 +123,8 @@ const rootsOf = (run, task) => {
     else if (letter === 'n') left.push([r - 1, t]);
     else if (letter === 'i') left.push([r, source[t]]);
     else if (!isOdd(codeOf(r, t))) {
-      const from = letter === 'u' ? having(r, t, [FAILED, UPSTREAM_FAILED]) : letter !== 'k' ? blockedUp(r, t, letter === 'q') :
-        SKIPPED_BY_SKIPPED.includes(tasks[t].rule) ? having(r, t, [SKIPPED]) : [];
+      const from = letter === 'u' ? having(r, t, [FAILED, UPSTREAM_FAILED]) :
+        letter === 'k' ? having(r, t, SKIPS_FOR[tasks[t].rule] || []) : blockedUp(r, t, letter === 'q');
       for (const u of from.reverse()) left.push([r, u]);
     }
   }

@@ -26,13 +26,17 @@ const lasted = ms => {
 const momentOf = ms => Math.abs(ms) <= 8.64e15 ? new Date(ms).toISOString() : String(ms);
 const codeWords = code => code === -1 ? 'not started' : `code ${code}`;
 const short = moment => moment.endsWith('T00:00:00Z') ? moment.slice(0, 10) : moment;
-// Characters that an eye or a terminal may take for something else: controls, and such as aren't seen or turn the line about.
-const UNSEEN = '\\x7f-\\x9f\\xad\\u061c\\u200b-\\u200f\\u2028-\\u202e\\u2060-\\u206f\\ufeff\\ufff9-\\ufffb';
-const unseen = new RegExp(`[${UNSEEN}]`, 'g');
-const control = new RegExp(`[\\x00-\\x1f${UNSEEN}]`);
-const escaped = new RegExp(`[\\\\'\\x00-\\x1f${UNSEEN}]`, 'g');
-// JSON text with what isn't seen as \u and four digits: JSON of the same value.
-const shown = json => json.replace(unseen, c => '\\u' + c.charCodeAt(0).toString(16).padStart(4, '0'));
+// Characters that an eye or a terminal may take for something else, but for those below U+0020: controls, format characters, separators of
+// lines, and such as are ignored by default (Unicode 16).
+const UNSEEN = '\\x7f-\\x9f\\xad\\u034f\\u0600-\\u0605\\u061c\\u06dd\\u070f\\u0890-\\u0891\\u08e2\\u115f-\\u1160\\u17b4-\\u17b5\\u180b-\\u180f' +
+  '\\u200b-\\u200f\\u2028-\\u202e\\u2060-\\u206f\\u3164\\ufe00-\\ufe0f\\ufeff\\uffa0\\ufff0-\\ufffb' +
+  '\\u{110bd}\\u{110cd}\\u{13430}-\\u{1343f}\\u{1bca0}-\\u{1bca3}\\u{1d173}-\\u{1d17a}\\u{e0000}-\\u{e0fff}';
+const unseen = new RegExp(`[${UNSEEN}]`, 'gu');
+const control = new RegExp(`[\\x00-\\x1f${UNSEEN}]`, 'u');
+const escaped = new RegExp(`[\\\\'\\x00-\\x1f${UNSEEN}]`, 'gu');
+// JSON text with what isn't seen as \u and four digits, or two such: JSON of the same value.
+const escapes = c => c.split('').map(unit => '\\u' + unit.charCodeAt(0).toString(16).padStart(4, '0')).join('');
+const shown = json => json.replace(unseen, escapes);
 const cut = text => {
   const characters = [...text];
   return characters.length <= 200 ? text : `${characters.slice(0, 200).join('')}... (${number(characters.length)} characters)`;
