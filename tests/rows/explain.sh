@@ -376,13 +376,13 @@ is_same 'the clear line of -x' "  backfill clear --zone-file /dev/null --from 20
 
 # By hand with the variables that the command names, whose dates are of the graph's zone: at 23:30 in UTC it is the next day there.
 
-cat > "$graph" <<'GRAPH'
+cat > "$work/zoned.json" <<'GRAPH'
 {"dag_id":"d","schedule":"30 0 * * *","zone":"+01:00","tasks":[{"id":"t","command":
   ["sh","-c","echo $BACKFILL_DATE_NODASH $AIRFLOW_CTX_EXECUTION_DATE"]},{"id":"u","command":["echo","BACKFILL"]}]}
 GRAPH
-printf '%s\n' '@backfill 2 d' '@run 2024-03-04T23:30:00Z 2024-03-05T23:30:00Z success' 't -1 success 1 -' 'u -1 success 1 -' '@end 1' > "$report"
+printf '%s\n' '@backfill 2 d' '@run 2024-03-04T23:30:00Z 2024-03-05T23:30:00Z success' 't -1 success 1 -' 'u -1 success 1 -' '@end 1' > "$work/zoned"
 by_hand() {
-    "$program" explain "$graph" "$report" --run 2024-03-04T23:30:00Z --task "$1" | sed -n '/^by hand$/,$ { s/^  //p }'
+    "$program" explain "$work/zoned.json" "$work/zoned" --run 2024-03-04T23:30:00Z --task "$1" | sed -n '/^by hand$/,$ { s/^  //p }'
 }
 is_same 'by hand: t' "env BACKFILL_DATE=2024-03-05 BACKFILL_DATE_NODASH=20240305 AIRFLOW_CTX_EXECUTION_DATE=2024-03-04T23:30:00+00:00 sh -c 'echo \$BACKFILL_DATE_NODASH \$AIRFLOW_CTX_EXECUTION_DATE'" "$(by_hand t)"
 is_same 'by hand: u' 'echo BACKFILL' "$(by_hand u)"
