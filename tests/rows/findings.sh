@@ -214,4 +214,34 @@ is_told <<'LINES'
 {"dag_id":"d","schedule":"@daily","pools":{"one":1},"tasks":[{"id":"a","pool":"one","pool_slots":2}]}
 slots beyond pool: a: it takes more slots than its pool has
 LINES
+
+# The task that is pulled from: one that isn't above, one that isn't there, the task itself, and any where the rule may decide early.
+is_told <<'LINES'
+{"dag_id":"d","schedule":"@daily","tasks":[{"id":"a"},{"id":"b"},{"id":"c","upstream":["b"],"command":["echo",{"pull":"b"},{"pull":"a"}]}]}
+pull not settled: c: it pulls from a task that needn't have ended when this one is decided: a
+LINES
+is_told <<'LINES'
+{"dag_id":"d","schedule":"@daily","tasks":[{"id":"a"},{"id":"b","upstream":["a"]},{"id":"c","upstream":["b"],"command":["echo",{"pull":"a"},{"pull":"c"}]}]}
+pull not settled: c: it pulls from a task that needn't have ended when this one is decided: c
+LINES
+is_told <<'LINES'
+{"dag_id":"d","schedule":"@daily","tasks":[{"id":"a"},{"id":"b","upstream":["a"],"rule":"one_success","command":["echo",{"pull":"a"}]}]}
+pull not settled: b: it pulls from a task that needn't have ended when this one is decided: a
+LINES
+
+# A pipe, which can be read once only: the refusal is told, and no finding.
+mkfifo "$work/pipe"
+echo '{"dag_id":' > "$graph"
+for named in "$work/pipe" "$graph --zone-file $work/pipe"; do
+    cat "$graph" > "$work/pipe" &
+    writer=$!
+    status=0
+    timeout 20 "$program" check --explain $named > "$work/out" 2> "$work/err" || status=$?
+    is_same "a pipe: $named" "2
+refused 1 not json
+fault: cannot read $work/pipe" "$status
+$(cat "$work/out" "$work/err")"
+    kill "$writer" 2> /dev/null || true
+    wait "$writer" 2> /dev/null || true
+done
 sum

@@ -55,6 +55,13 @@ abbrev pub PullsUnsettled : Draft → ℕ → TaskDraft → Type 0
 PullsUnsettled draft t task =
     (id : List ℕ) × Contains (pulled_in task.command) id × ¬ (MayPull draft t id)
 
+-- the task t pulls from the one of that id, from which it may not pull
+pub record IsUnsettledPull (draft : Draft) (t : ℕ) (id : List ℕ) : Type 0 where
+  pub task : TaskDraft
+  pub is_task : slice_get draft.tasks t ≡ Some task
+  pub pulled : Contains (pulled_in task.command) id
+  pub unsettled : ¬ (MayPull draft t id)
+
 abbrev pub is_no_upstream : TaskDraft → Option (List ℕ) → Bool
 is_no_upstream task (Some id) = not (list_any (bytes_eq id) task.upstreams)
 is_no_upstream task None = false

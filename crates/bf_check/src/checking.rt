@@ -49,7 +49,7 @@ struct Parts {
 impl DraftUnderCheck<'_> {
     /// Finds the limits of a draft that has no refusal below 8 (docs/FORMATS.md). Err for an unknown pool (8), slots
     /// beyond it (9), or at want of memory.
-    fn check_limits(&self, alloc: Global) -> Result<Limits, CheckFault>
+    pub(crate) fn check_limits(&self, alloc: Global) -> Result<Limits, CheckFault>
         requires { HasNoneBelow self.now.draft.now 8 }
         ensures limits { IfOk result (λ limits. limits ≡ limits_in self.now.draft.now) }
         ensures ok { OnOk result (HasNoneBelow self.now.draft.now 10) }

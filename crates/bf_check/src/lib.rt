@@ -18,6 +18,7 @@ mod pulls;
 mod rules;
 mod schedules;
 mod tasks;
+mod unsettled;
 
 pub use bf_cron::CronSpec;
 pub use bf_plan::{ContextVariable, Dag, Demand, Limits, Plan, Task, TaskKind, WeightRule, Word};
@@ -25,3 +26,4 @@ pub use bf_zone::Zone;
 pub use checking::check;
 pub use fault::{CheckFault, TaskFault};
 pub use laws::answer_is_unique;
+pub use unsettled::unsettled_pull;

@@ -76,7 +76,7 @@ fn settling_upstreams(alloc: Global, rule: Rule, upstreams: &[u32]) -> Result<Ve
 impl DraftUnderCheck<'_> {
     /// Gives for each task the upstreams that must be settled when it is decided: all of them where its rule waits for
     /// that, else none.
-    fn settling_edges(
+    pub(crate) fn settling_edges(
         &self,
         alloc: Global,
         graph: &Graph,

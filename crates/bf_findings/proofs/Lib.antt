@@ -7,3 +7,4 @@ pub mod Told
 pub mod Files
 pub mod PlaceLemmas
 pub mod Everywhere
+mod Pulled

@@ -7,12 +7,15 @@ use Rattle.bf_read.specs.declared.fault.ReadFault.TheVariants as read
 use Rattle.bf_read.specs.declared.path.Path.TheVariants as path
 use Rattle.bf_read.specs.declared.keys.TaskKey.TheVariants as key
 use Rattle.bf_read.specs.Reading.{data_in, graph_in, graph_file_of}
+use Rattle.bf_check.specs.declared.fault.CheckFault.{CheckFault}
 use Rattle.bf_check.specs.declared.fault.CheckFault.TheVariants as check
-use Rattle.bf_check.specs.Refusals.{IsAccepted, IsFaultOf}
+use Rattle.bf_check.specs.declared.fault.TaskFault.TheVariants.{PullNotSettled}
+use Rattle.bf_check.specs.Checking.{ids_of, number_of}
+use Rattle.bf_check.specs.Refusals.{IsAccepted, IsFaultOf, IsUnsettledPull}
 use Rattle.bf_findings.specs.declared.finding.Finding.{Finding}
 use Rattle.bf_findings.specs.declared.finding.Finding.TheVariants.{NotJson, Fault, Refused, More}
 use Rattle.bf_findings.specs.declared.refusal.Refusal.{Refusal}
-use Rattle.bf_findings.specs.declared.refusal.Refusal.TheVariants.{Read, Check}
+use Rattle.bf_findings.specs.declared.refusal.Refusal.TheVariants.{Read, Check, Pull}
 use Rattle.bf_findings.specs.declared.finding.Fault.{Fault as PlaceFault}
 use Rattle.bf_findings.specs.declared.place.DocumentPlace.{DocumentPlace}
 use Rattle.bf_findings.specs.declared.place.DocumentPlace.TheVariants as place
@@ -26,12 +29,31 @@ pub record IsAcceptedFile (graph : List ℕ) (file : Option (List ℕ)) : Type 0
   pub says : graph_in graph ≡ Ok (graph_file_of draft)
   pub accepted : IsAccepted draft file
 
+-- the bytes say a graph that is refused for this, with this zone file, which isn't want of memory
+abbrev pub IsCheckRefusal : List ℕ → Option (List ℕ) → CheckFault → Type 0
+IsCheckRefusal graph file fault =
+    (draft : Draft) × (graph_in graph ≡ Ok (graph_file_of draft)) × IsFaultOf draft file fault
+    × (fault ≢ check.OutOfMemory)
+
+-- in the graph of the bytes the task of an id pulls from the one of another, from which it may not
+pub record PullsUnsettledIn (graph task pulled : List ℕ) : Type 0 where
+  pub draft : Draft
+  pub says : graph_in graph ≡ Ok (graph_file_of draft)
+  pub number : ℕ
+  pub is_task : number_of (ids_of draft.tasks) task ≡ Some number
+  pub unsettled : IsUnsettledPull draft number pulled
+
+-- the fault is that a task pulls from one from which it may not, and this is that one
+abbrev pub IsPulled : List ℕ → CheckFault → List ℕ → Type 0
+IsPulled graph (check.Task PullNotSettled task) pulled = PullsUnsettledIn graph task pulled
+IsPulled graph fault pulled = ⊥
+
 -- the bytes are refused for this, with this zone file, which isn't want of memory
 abbrev pub IsRefusal : List ℕ → Option (List ℕ) → Refusal → Type 0
 IsRefusal graph file (Read fault) = (graph_in graph ≡ Err fault) × (fault ≢ read.OutOfMemory)
-IsRefusal graph file (Check fault) =
-    (draft : Draft) × (graph_in graph ≡ Ok (graph_file_of draft)) × IsFaultOf draft file fault
-    × (fault ≢ check.OutOfMemory)
+IsRefusal graph file (Check fault) = IsCheckRefusal graph file fault
+IsRefusal graph file (Pull fault pulled) =
+    IsCheckRefusal graph file fault × IsPulled graph fault pulled
 
 -- what is told is so: the bytes are no JSON, or something is wrong at a place of their document, or the bytes are refused for it.
 -- Where there are more is a matter of all that is told

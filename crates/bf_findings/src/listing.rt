@@ -1,9 +1,10 @@
 //! All that is wrong with a graph file.
-ghost use Rattle.std.specs.Prelude.{◌≡◌, ◌≤◌, ℕ, List, length, Some, option_map, All, IfOk};
+ghost use Rattle.std.specs.Prelude.{◌≡◌, ◌<◌, ◌≤◌, ℕ, List, length, Option, Some, option_map, position, All, IfOk, IfSome};
 ghost use Rattle.std.specs.List.{list_any};
 ghost use Rattle.serde_json.specs.View.{view};
 ghost use Rattle.bf_read.specs.Reading.{data_in};
-ghost use Rattle.bf_findings.specs.Findings.{AreFindings, AreTold, IsFinding, IsToldOfData, IsToldOfFile, findings_of};
+ghost use Rattle.std.specs.Str.{bytes_eq};
+ghost use Rattle.bf_findings.specs.Findings.{AreFindings, AreTold, IsCheckRefusal, IsFinding, IsPulled, IsRefusal, IsToldOfData, IsToldOfFile, PullsUnsettledIn, findings_of};
 ghost use Rattle.bf_findings.specs.Findings as spec;
 ghost use Rattle.bf_findings.specs.inner.Findings.{IsRefusalIfAny};
 
@@ -12,11 +13,82 @@ use crate::finding::{Fault, Finding};
 use crate::judging::Document;
 use crate::place::DocumentPlace;
 use crate::refusal::Refusal;
-use bf_check::{CheckFault, check};
-use bf_read::{MOST_BYTES, Path, ReadFault, TaskKey, read_graph};
-use bf_value::OutOfMemory;
+use bf_check::{CheckFault, TaskFault, check, unsettled_pull};
+use bf_read::{Draft, MOST_BYTES, Path, ReadFault, TaskKey, read_graph};
+use bf_value::{OutOfMemory, Text};
 use serde_json::Value;
 use std::alloc::Global;
+
+/// Gives the number of the task of this id, from 0; None where there is none.
+fn number_of_task(draft: &Draft, id: &str) -> Option<usize>
+    ensures number { result ≡ position (λ task. bytes_eq id.now task.id) draft.now.tasks }
+    ensures within { IfSome result (λ t. t < length draft.now.tasks) }
+{
+    draft
+        .tasks
+        .as_slice()
+        .iter()
+        .position(|task| id == task.id.as_str())
+}
+
+/// Gives the id of the first task from which the task of this id pulls in a graph file, and may not; None where none is
+/// found. `zone_file` has the bytes for the zone `file`.
+fn unsettled_pull_in(
+    alloc: Global,
+    graph: &[u8],
+    zone_file: Option<&[u8]>,
+    id: &str,
+) -> Result<Option<Text>, OutOfMemory>
+    ensures { IfOk result (λ found. IfSome found (PullsUnsettledIn graph.now id.now)) }
+{
+    let draft = match read_graph(alloc, graph) {
+        Ok(draft) => draft,
+        Err(ReadFault::OutOfMemory) => return Err(OutOfMemory),
+        Err(_) => return Ok(None),
+    };
+    let Some(t) = number_of_task(&draft, id) else {
+        return Ok(None);
+    };
+    match unsettled_pull(alloc, &draft, zone_file, t as u32) {
+        Ok(found) => Ok(found),
+        Err(CheckFault::OutOfMemory) => Err(OutOfMemory),
+        Err(_) => Ok(None),
+    }
+}
+
+/// Gives the id of the task that is pulled from, where the check refuses a graph for a pull and the task is found.
+/// `zone_file` has the bytes for the zone `file`.
+fn pulled_task(
+    alloc: Global,
+    graph: &[u8],
+    zone_file: Option<&[u8]>,
+    fault: &CheckFault,
+) -> Result<Option<Text>, OutOfMemory>
+    ensures { IfOk result (λ found. IfSome found (IsPulled graph.now fault.now)) }
+{
+    match fault {
+        CheckFault::Task(TaskFault::PullNotSettled, task) => {
+            unsettled_pull_in(alloc, graph, zone_file, task.as_str())
+        }
+        _ => Ok(None),
+    }
+}
+
+/// Gives why a graph is refused that the check refuses for this fault. `zone_file` has the bytes for the zone `file`.
+fn refusal_of_check(
+    alloc: Global,
+    graph: &[u8],
+    zone_file: Option<&[u8]>,
+    fault: CheckFault,
+) -> Result<Refusal, OutOfMemory>
+    ensures { (file : Option (List ℕ)) → IsCheckRefusal graph.now file fault
+        → IfOk result (IsRefusal graph.now file) }
+{
+    match pulled_task(alloc, graph, zone_file, &fault)? {
+        Some(pulled) => Ok(Refusal::Pull(fault, pulled)),
+        None => Ok(Refusal::Check(fault)),
+    }
+}
 
 /// Gives why a graph file is refused; None where it is accepted. `zone_file` has the bytes for the zone `file`.
 fn refusal(
@@ -34,7 +106,7 @@ fn refusal(
     match check(alloc, draft, zone_file) {
         Ok(_) => Ok(None),
         Err(CheckFault::OutOfMemory) => Err(OutOfMemory),
-        Err(fault) => Ok(Some(Refusal::Check(fault))),
+        Err(fault) => Ok(Some(refusal_of_check(alloc, graph, zone_file, fault)?)),
     }
 }
 

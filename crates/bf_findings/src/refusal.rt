@@ -4,6 +4,7 @@ ghost use Rattle.bf_findings.specs.Texts.{why_read, why_task, why_check};
 
 use bf_check::{CheckFault, TaskFault};
 use bf_read::{Path, ReadFault};
+use bf_value::Text;
 use std::fmt;
 
 /// Why a graph file is refused: when it is read as a draft, or when the draft is checked as a plan.
@@ -11,6 +12,8 @@ use std::fmt;
 pub enum Refusal {
     Read(ReadFault),
     Check(CheckFault),
+    /// That a task pulls from one which needn't have ended then, and the id of that one.
+    Pull(CheckFault, Text),
 }
 
 /// Gives the words that explain, behind the fault itself, why a file can't be read as a draft.
@@ -69,6 +72,10 @@ impl fmt::Display for Refusal {
         match self {
             Refusal::Read(fault) => write!(f, "{fault}: {}", words_of_read_fault(fault)),
             Refusal::Check(fault) => write!(f, "{fault}: {}", words_of_check_fault(fault)),
+            Refusal::Pull(fault, pulled) => write!(
+                f,
+                "{fault}: it pulls from {pulled}, which needn't have ended when this one is decided"
+            ),
         }
     }
 }

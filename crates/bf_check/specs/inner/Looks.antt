@@ -1,5 +1,5 @@
 -- What is found as a draft is looked through.
-use Rattle.std.specs.Prelude.{◌≡◌, ℕ, ◌<◌, List, [], if◌then◌else◌, map, length, slice_get, Contains, Option, Some, None, option_map, is_none}
+use Rattle.std.specs.Prelude.{◌≡◌, ℕ, ◌<◌, Bool, false, List, [], if◌then◌else◌, map, length, slice_get, Contains, Option, Some, None, option_map, is_none, unwrap_or}
 use Rattle.std.specs.List.{list_any, slice_index_or}
 use Rattle.bf_graph.specs.Shape.{Shape}
 use Rattle.bf_read.specs.declared.draft.Draft.{Draft}
@@ -127,3 +127,11 @@ settling_upstreams ids task =
 
 abbrev pub settling_edges_of : List TaskDraft → List (List ℕ)
 settling_edges_of tasks = map (settling_upstreams (ids_of tasks)) tasks
+
+-- the task of an id is there and marked
+abbrev pub is_marked_at : List Bool → Option ℕ → Bool
+is_marked_at marks None = false
+is_marked_at marks (Some number) = unwrap_or (slice_get marks number) false
+
+abbrev pub is_settled_by : List (List ℕ) → List Bool → List ℕ → Bool
+is_settled_by ids marks id = is_marked_at marks (number_of ids id)
