@@ -361,7 +361,10 @@ class Explaining:
         blocked = self.names(self.blocked(at, order))
         why = [f"{listed(last)}, which no task follows, {'is' if len(last) == 1 else 'are'} failed or upstream_failed."] if last else []
         why += [have_no_status(blocked)] if blocked else []
+        would_be = "failed" if why else "success"
         why = why or ["None of the tasks that no task follows is failed or upstream_failed, and every task has a status."]
+        if would_be != run.state:
+            why = ["What the report has doesn't follow from this graph.", f"By this graph it would be {would_be}:"] + why
         counts = [sum(each) for each in zip(*map(counts_of, run.tasks))]
         sections = [("why", why), ("task instances", [counted(counts)])]
         sections.append(("failed", self.rows(at, self.some_in(at, order, (FAILED,)))))

@@ -48,6 +48,30 @@ why
 task instances
   3 success
 LINES
+# States of runs that don't follow from what their tasks came to.
+sed 's/^\(@run 2024-03-05.*\) failed$/\1 success/; s/^\(@run 2024-03-06.*\) success$/\1 failed/' "$day/report.txt" > "$work/contradicting.txt"
+answers 0 explain --run 2024-03-05 "$day/graph.json" "$work/contradicting.txt" <<'LINES'
+run 2024-03-05T00:00:00Z to 2024-03-06T00:00:00Z: success
+why
+  What the report has doesn't follow from this graph.
+  By this graph it would be failed:
+  publish, which no task follows, is failed or upstream_failed.
+task instances
+  1 success, 1 failed, 1 upstream_failed
+failed
+  total  failed
+not tried
+  publish  upstream_failed
+LINES
+answers 0 explain --run 2024-03-06 "$day/graph.json" "$work/contradicting.txt" <<'LINES'
+run 2024-03-06T00:00:00Z to 2024-03-07T00:00:00Z: failed
+why
+  What the report has doesn't follow from this graph.
+  By this graph it would be success:
+  None of the tasks that no task follows is failed or upstream_failed, and every task has a status.
+task instances
+  3 success
+LINES
 answers 0 explain --task publish --run 2024-03-05 "$day/mended.json" "$day/report.txt" <<'LINES'
 publish in the run of 2024-03-05T00:00:00Z: upstream_failed
 why

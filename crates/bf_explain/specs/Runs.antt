@@ -10,6 +10,7 @@ use Rattle.bf_report.specs.declared.report.TaskReport.{TaskReport}
 use Rattle.bf_report.specs.declared.report.RunReport.{RunReport}
 use Rattle.bf_reason.specs.Settled.{seen_among, value_among}
 use Rattle.bf_wording.specs.Lists.{name_list_of}
+use Rattle.bf_xcom.specs.declared.values.RunState.{RunState}
 use Rattle.bf_why.specs.Counted.{counts_text_of}
 use Rattle.bf_why.specs.Decided.{have_no_status_of, id_of}
 use Rattle.bf_why.specs.Since.{failures, has_instance_of}
@@ -54,16 +55,27 @@ last_sentence_of names =
 abbrev pub blocked_sentence_of : List (List ℕ) → List (List ℕ)
 blocked_sentence_of names = if length names == 0 then [] else have_no_status_of names ∷ []
 
--- by the tasks that no task follows and that failed, and by those without a status
-abbrev pub run_why_of : List (List ℕ) → List (List ℕ) → List (List ℕ)
-run_why_of last blocked =
-    if length last == 0 && length blocked == 0
-    then codes "None of the tasks that no task follows is failed or upstream_failed, and every task has a status." ∷ []
-    else last_sentence_of last ++ blocked_sentence_of blocked
+-- of a state that isn't the one by this graph, which is failed or not: that it doesn't follow, and what would
+abbrev pub foreign_run_of : RunState → Bool → List (List ℕ)
+foreign_run_of RunState.Success true =
+    codes "What the report has doesn't follow from this graph."
+    ∷ codes "By this graph it would be failed:" ∷ []
+foreign_run_of RunState.Failed false =
+    codes "What the report has doesn't follow from this graph."
+    ∷ codes "By this graph it would be success:" ∷ []
+foreign_run_of state fails = []
 
-abbrev pub run_why_lines_of : Dag → List TaskReport → List ℕ → List (List ℕ)
-run_why_lines_of dag tasks order =
-    run_why_of (ids_of dag (λ task. is_last_in dag task && has_instance_of tasks failures task) order)
+-- by the tasks that no task follows and that failed, and by those without a status
+abbrev pub run_why_of : RunState → List (List ℕ) → List (List ℕ) → List (List ℕ)
+run_why_of state last blocked =
+    if length last == 0 && length blocked == 0
+    then foreign_run_of state false
+    ++ codes "None of the tasks that no task follows is failed or upstream_failed, and every task has a status." ∷ []
+    else (foreign_run_of state true ++ last_sentence_of last) ++ blocked_sentence_of blocked
+
+abbrev pub run_why_lines_of : Dag → RunState → List TaskReport → List ℕ → List (List ℕ)
+run_why_lines_of dag state tasks order =
+    run_why_of state (ids_of dag (λ task. is_last_in dag task && has_instance_of tasks failures task) order)
     (ids_of dag (λ task. is_blocked_in (value_among tasks task)) order)
 
 -- ---- what came of its tasks
@@ -90,7 +102,8 @@ run_heading_of run =
 -- over the tasks in this order
 abbrev pub run_lines_of : Dag → RunReport → List ℕ → List (List ℕ)
 run_lines_of dag run order =
-    (((run_heading_of run ∷ [] ++ section (codes "why") (run_why_lines_of dag run.tasks order))
+    (((run_heading_of run ∷ [] ++ section (codes "why")
+    (run_why_lines_of dag run.state run.tasks order))
     ++ section (codes "task instances") (counts_lines_of run.tasks order))
     ++ section (codes "failed") (task_lines_of dag run.tasks (failed_tasks_of run.tasks order)))
     ++ section (codes "not tried") (task_lines_of dag run.tasks

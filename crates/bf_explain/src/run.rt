@@ -141,7 +141,7 @@ fn run_lines(
     ensures { IfOk result (λ lines. lines.items ≡ run_lines_of plan.now.dag run.now order.now) }
 {
     let mut lines = one_line(alloc, run_heading(alloc, run)?)?;
-    let why = run_why_lines(alloc, plan, settled, order)?;
+    let why = run_why_lines(alloc, plan, run.state, settled, order)?;
     add_section(alloc, &mut lines, "why", why.as_slice())?;
     let counts = counts_lines(alloc, settled, order)?;
     add_section(alloc, &mut lines, "task instances", counts.as_slice())?;

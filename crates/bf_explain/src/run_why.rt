@@ -2,7 +2,7 @@
 ghost use Rattle.std.specs.Prelude.{◌≡◌, ◌&&◌, IfOk};
 ghost use Rattle.std.specs.List.{list_any};
 ghost use Rattle.bf_core.specs.Deciding.{is_blocked_in};
-ghost use Rattle.bf_explain.specs.Runs.{is_or_are_of, blocked_sentence_of, ids_of, is_last_in, is_upstream_in, last_sentence_of, run_why_of, run_why_lines_of};
+ghost use Rattle.bf_explain.specs.Runs.{is_or_are_of, blocked_sentence_of, foreign_run_of, ids_of, is_last_in, is_upstream_in, last_sentence_of, run_why_of, run_why_lines_of};
 ghost use Rattle.bf_reason.specs.Settled.{value_among};
 ghost use Rattle.bf_why.specs.Since.{failures, has_instance_of};
 
@@ -10,7 +10,8 @@ use bf_plan::{Dag, Plan, Task};
 use bf_reason::{Settled, is_blocked};
 use bf_value::{OutOfMemory, Text};
 use bf_why::{States, add_id_if, has_instance_in, no_status_text};
-use bf_wording::{add_lines, name_list, one_line};
+use bf_wording::{add_lines, add_moved_line, name_list, one_line};
+use bf_xcom::RunState;
 use std::alloc::Global;
 
 /// Whether task number `task` is directly upstream of `other`.
@@ -109,34 +110,59 @@ fn blocked_sentence(alloc: Global, names: &[Text]) -> Result<Vec<Text>, OutOfMem
     one_line(alloc, no_status_text(alloc, names)?)
 }
 
-/// Sentences on why a run has its state. `last` are the ids of the failed or upstream_failed tasks that no task
+/// Two sentences where a run's state isn't what its tasks make it by this graph, which is failed where `fails`: that it
+/// doesn't follow, and what would. Empty where it is.
+fn foreign_run(alloc: Global, state: RunState, fails: bool) -> Result<Vec<Text>, OutOfMemory>
+    ensures { IfOk result (λ lines. lines.items ≡ foreign_run_of state fails) }
+{
+    let would_be = match (state, fails) {
+        (RunState::Success, true) => "By this graph it would be failed:",
+        (RunState::Failed, false) => "By this graph it would be success:",
+        (RunState::Success, false) | (RunState::Failed, true) => return Ok(Vec::new(alloc)),
+    };
+    let first = Text::copy_of(alloc, "What the report has doesn't follow from this graph.")?;
+    let mut lines = one_line(alloc, first)?;
+    add_moved_line(&mut lines, Text::copy_of(alloc, would_be)?)?;
+    Ok(lines)
+}
+
+/// Sentences on why a run has this state. `last` are the ids of the failed or upstream_failed tasks that no task
 /// follows, `blocked` the ids of the tasks without a status; where both are empty, one sentence says so.
-fn run_why(alloc: Global, last: &[Text], blocked: &[Text]) -> Result<Vec<Text>, OutOfMemory>
-    ensures { IfOk result (λ lines. lines.items ≡ run_why_of last.now blocked.now) }
+fn run_why(
+    alloc: Global,
+    state: RunState,
+    last: &[Text],
+    blocked: &[Text],
+) -> Result<Vec<Text>, OutOfMemory>
+    ensures { IfOk result (λ lines. lines.items ≡ run_why_of state last.now blocked.now) }
 {
     if last.is_empty() && blocked.is_empty() {
+        let mut lines = foreign_run(alloc, state, false)?;
         let text = Text::copy_of(
             alloc,
             "None of the tasks that no task follows is failed or upstream_failed, and every task has a status.",
         )?;
-        return one_line(alloc, text);
+        add_moved_line(&mut lines, text)?;
+        return Ok(lines);
     }
-    let mut lines = last_sentence(alloc, last)?;
+    let mut lines = foreign_run(alloc, state, true)?;
+    add_lines(&mut lines, last_sentence(alloc, last)?)?;
     add_lines(&mut lines, blocked_sentence(alloc, blocked)?)?;
     Ok(lines)
 }
 
-/// Sentences on why a run has its state, which name tasks in the order of `order`. `settled` are the run's tasks.
+/// Sentences on why a run has this state, which name tasks in the order of `order`. `settled` are the run's tasks.
 pub(crate) fn run_why_lines(
     alloc: Global,
     plan: &Plan,
+    state: RunState,
     settled: &[Settled<'_>],
     order: &[u32],
 ) -> Result<Vec<Text>, OutOfMemory>
     ensures { IfOk result (λ lines. lines.items
-        ≡ run_why_lines_of plan.now.dag settled.now order.now) }
+        ≡ run_why_lines_of plan.now.dag state settled.now order.now) }
 {
     let last = last_failed_ids(alloc, plan, settled, order)?;
     let blocked = ids_without_status(alloc, plan, settled, order)?;
-    run_why(alloc, last.as_slice(), blocked.as_slice())
+    run_why(alloc, state, last.as_slice(), blocked.as_slice())
 }

@@ -8,7 +8,7 @@ pub const TO_GRAPH_PATH: &str = r##"<!doctype html>
 <meta name="viewport" content="width=device-width, initial-scale=1">
 <meta name="color-scheme" content="light dark">
 <meta name="referrer" content="no-referrer">
-<meta http-equiv="Content-Security-Policy" content="default-src 'none'; img-src data:; style-src 'sha256-40dfjfuvPgmtZHfoIN1+W0KP9GjlJ/20S/jTBZ3tH7I=' 'sha256-b5pLL4DDQRGi8jYuJy2XioOarBdXNQ4so83wsJxK5gc='; script-src 'sha256-TJdtEUp+09zULAXIsxb7Ksx2DZhAdckYzhvMBtZ60ds='; base-uri 'none'; form-action 'none'">
+<meta http-equiv="Content-Security-Policy" content="default-src 'none'; img-src data:; style-src 'sha256-40dfjfuvPgmtZHfoIN1+W0KP9GjlJ/20S/jTBZ3tH7I=' 'sha256-b5pLL4DDQRGi8jYuJy2XioOarBdXNQ4so83wsJxK5gc='; script-src 'sha256-DT5Os/fjnf3qyjDT4zy75SuWIBeem4Oc29EF+YK1x1Q='; base-uri 'none'; form-action 'none'">
 <title>backfill</title>
 <style>
 :root {

@@ -147,7 +147,9 @@ const whyRun = r => {
   const blocked = order.filter(t => hasNoStatus(r, t)).map(t => ids[t]), out = [];
   if (last.length) out.push(`${listed(last)}, which no task follows, ${last.length === 1 ? 'is' : 'are'} failed or upstream_failed.`);
   if (blocked.length) out.push(`${haveNoStatus(blocked)}.`);
-  return out.length ? out : ['None of the tasks that no task follows is failed or upstream_failed, and every task has a status.'];
+  const wouldBe = out.length ? 'failed' : 'success', foreign = (runFailed[r] ? 'failed' : 'success') === wouldBe ? []
+    : ["What the report has doesn't follow from this graph.", `By this graph it would be ${wouldBe}:`];
+  return out.length ? [...foreign, ...out] : [...foreign, 'None of the tasks that no task follows is failed or upstream_failed, and every task has a status.'];
 };
 
 "##;

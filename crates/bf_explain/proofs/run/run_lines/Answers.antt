@@ -12,7 +12,7 @@ returns c =
     let failed : List TaskReport → List (List ℕ) = λ tasks. section (codes "failed") (task_lines_of dag tasks (failed_tasks_of tasks order)) in
     let left : List TaskReport → List (List ℕ) = λ tasks. section (codes "not tried") (task_lines_of dag tasks (tasks_not_tried_of tasks order)) in
     let first = c.in_ok-lines.ensures ∙ ap (λ (line : List ℕ). line ∷ []) c.in_ok-run_heading.ensures in
-    let why = c.as_slice.ensures.value ∙ (c.in_ok-why.ensures ∙ ap (λ (tasks : List TaskReport). run_why_lines_of dag tasks order) same) in
+    let why = c.as_slice.ensures.value ∙ (c.in_ok-why.ensures ∙ ap (λ (tasks : List TaskReport). run_why_lines_of dag c.args.run.now.state tasks order) same) in
     let counts = c.as_slice-2.ensures.value ∙ (c.in_ok-counts.ensures ∙ ap (λ (tasks : List TaskReport). counts_lines_of tasks order) same) in
     c.in_ok-add_not_tried.ensures
     ∙ ap (λ (ls : List (List ℕ)). ls ++ left settled) (c.in_ok-add_failed.ensures
