@@ -123,7 +123,8 @@ def grid(graph, report, asked):
     for task in tasks:
         lines.append(row(graph.id(task), [min((mark_of(run.tasks[task]) for run in column), key=WORST_FIRST.index) for column in columns], sums[task]))
     seen = {mark_of(run.tasks[task]) for run in runs for task in tasks}
-    lines += ["", "  ".join(f"{painted(COLORS[mark], mark)} {meaning}" for mark, meaning in MEANINGS.items() if mark in seen)]
+    if seen:
+        lines += ["", "  ".join(f"{painted(COLORS[mark], mark)} {meaning}" for mark, meaning in MEANINGS.items() if mark in seen)]
 
     failing = [(task, [run.start for run in runs if any(instance.state == FAILED for instance in run.tasks[task])]) for task in tasks]
     failing = sorted((pair for pair in failing if pair[1]), key=lambda pair: -len(pair[1]))

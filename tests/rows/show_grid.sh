@@ -29,6 +29,19 @@ tasks that failed themselves
   total  1 run  2024-03-05
 GRID
 
+# A graph without tasks has no marks, so none are explained.
+
+tasks ''
+printf '%s\n' '@backfill 2 d' '@run 2024-01-01T00:00:00Z 2024-01-02T00:00:00Z success' '@end 1' > "$report"
+answers 0 show "$graph" "$report" <<'GRID'
+d  2024-01-01 to 2024-01-01  1 run, 0 failed
+
+     2024-01
+     0
+     1
+run  .
+GRID
+
 # In colours: the marks of one kind that stand together begin with one sequence and end with another.
 
 esc=$'\e'

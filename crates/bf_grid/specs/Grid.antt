@@ -19,7 +19,7 @@ use Rattle.bf_marks.specs.RowOrder.{order_of}
 use Rattle.bf_grid.specs.GridRows.{by_column, column_state, line, row}
 use Rattle.bf_marks.specs.Tallies.{runs_tally, states_tally, sum}
 use Rattle.bf_grid.specs.Summary.{each_line, head_line, left_out_line}
-use Rattle.bf_grid.specs.Legend.{legend_line}
+use Rattle.bf_grid.specs.Legend.{legend_of}
 
 -- a start that isn't there is 1970
 abbrev pub start_or : Option RunReport → ℤ
@@ -58,8 +58,8 @@ rows_text names widths colored dag count each runs tasks =
     (column_starts count each runs)
     ++ (row names widths colored (codes "run") (by_column count each column_state runs)
     (states_tally runs)
-    ++ (flat_map (task_row names widths colored dag count each runs) tasks ++ 10
-    ∷ legend_line colored runs tasks))
+    ++ (flat_map (task_row names widths colored dag count each runs) tasks
+    ++ legend_of colored runs tasks))
 
 -- ---- the whole
 

@@ -37,5 +37,11 @@ legend colored (mark ∷ marks) =
     explained colored mark ++ ((if length marks == 0 then [] else codes "  ")
     ++ legend colored marks)
 
-abbrev pub legend_line : Bool → List RunReport → List ℕ → List ℕ
-legend_line colored runs tasks = line (legend colored (filter (is_seen_in runs tasks) all_marks))
+-- an empty line and the marks that are explained, where there are some
+abbrev pub legend_lines : Bool → List Mark → List ℕ
+legend_lines colored [] = []
+legend_lines colored (mark ∷ marks) = 10 ∷ line (legend colored (mark ∷ marks))
+
+-- those that one of these tasks has in one of these runs
+abbrev pub legend_of : Bool → List RunReport → List ℕ → List ℕ
+legend_of colored runs tasks = legend_lines colored (filter (is_seen_in runs tasks) all_marks)

@@ -113,7 +113,7 @@ impl Table<'_> {
         Ok(())
     }
 
-    /// Adds the table: its labels, the row of the runs' states, the rows of the tasks, an empty line and the legend.
+    /// Adds the table: its labels, the row of the runs' states, the rows of the tasks, and the legend.
     pub(crate) fn push(self, alloc: Global, text: &mut Vec<u8>) -> Result<(), OutOfMemory>
         ensures { OnOk result (text.new.items ≡ text.old.items
             ++ text_in self.entry) }
@@ -125,7 +125,6 @@ impl Table<'_> {
         let tally = tally_of_shown_states(columns.runs);
         layout.push_row(alloc, text, b"run", states.as_slice(), tally)?;
         self.push_tasks(alloc, text)?;
-        push(text, b"\n")?;
         push_legend(alloc, text, layout.colored, columns.runs, self.tasks)
     }
 }

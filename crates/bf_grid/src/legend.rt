@@ -1,6 +1,6 @@
 //! What the marks of a grid mean.
 ghost use Rattle.std.specs.Prelude.{◌≡◌, ◌++◌, filter, map, IfOk, OnOk};
-ghost use Rattle.bf_grid.specs.Legend.{explained, has_mark_in, is_seen_in, legend, legend_line, meaning};
+ghost use Rattle.bf_grid.specs.Legend.{explained, has_mark_in, is_seen_in, legend, legend_lines, legend_of, meaning};
 
 use crate::row::push_line;
 use bf_marks::{Mark, push, push_painted, tally_at};
@@ -99,8 +99,26 @@ fn push_meanings(text: &mut Vec<u8>, colored: bool, marks: &[Mark]) -> Result<()
     Ok(())
 }
 
-/// Adds the legend, with its line feed: the letter of each mark that one of these tasks has in one of these runs,
-/// coloured where `colored`, and the word for it.
+/// Adds an empty line and these marks, explained; nothing where there are none.
+fn push_legend_lines(
+    alloc: Global,
+    text: &mut Vec<u8>,
+    colored: bool,
+    marks: &[Mark],
+) -> Result<(), OutOfMemory>
+    ensures { OnOk result (text.new.items ≡ text.old.items ++ legend_lines colored marks.now) }
+{
+    if marks.is_empty() {
+        return Ok(());
+    }
+    let mut shown = Vec::new(alloc);
+    push_meanings(&mut shown, colored, marks)?;
+    push(text, b"\n")?;
+    push_line(text, shown.as_slice())
+}
+
+/// Adds the legend behind an empty line: the letter of each mark that one of these tasks has in one of these runs,
+/// coloured where `colored`, and the word for it. Nothing where they have none.
 pub(crate) fn push_legend(
     alloc: Global,
     text: &mut Vec<u8>,
@@ -109,10 +127,8 @@ pub(crate) fn push_legend(
     tasks: &[u32],
 ) -> Result<(), OutOfMemory>
     ensures { OnOk result (text.new.items ≡ text.old.items
-        ++ legend_line colored (map (λ run. run.now) runs.now) tasks.now) }
+        ++ legend_of colored (map (λ run. run.now) runs.now) tasks.now) }
 {
     let marks = seen_among(alloc, runs, tasks, &MARKS)?;
-    let mut shown = Vec::new(alloc);
-    push_meanings(&mut shown, colored, marks.as_slice())?;
-    push_line(text, shown.as_slice())
+    push_legend_lines(alloc, text, colored, marks.as_slice())
 }
