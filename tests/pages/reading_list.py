@@ -7,7 +7,8 @@ lines and imports), and then the sums. Without a word it prints the sums of each
 invariant rests on, by file. `--rows` prints what does not resolve, and what stands in specs/ while nothing public rests on it, or the other way round in
 specs/inner/, a line each, and then how many rows were looked at, and how many differ.
 
-A name ends the walk where it is the kit's, and at a type that code declares. A type is counted, and neither its fields nor its invariant are.
+A name ends the walk where it is the kit's, and at a type that code declares. The lines of types stand beside those of definitions: fields and variants,
+what contracts see of a value and its invariant, and of a trait its ghost relations and what its calls promise. What these name is not walked to.
 """
 import collections
 import functools
@@ -342,9 +343,47 @@ def definitions_of(found):
     return sorted(one for one in found if one[0] == "definition")
 
 
+def block_at(lines, first):
+    """The lines from one on to the brace that ends its block, or to its semicolon."""
+    found, depth = [], 0
+    for line in lines[first:]:
+        found.append(line)
+        depth += line.count("{") - line.count("}")
+        if depth <= 0 and line.rstrip().endswith(("}", ";")):
+            break
+    return found
+
+
+def items_of(lines):
+    """The items of a block by their first lines, each with its lines: what is indented as the first of them begins one."""
+    found = []
+    for line in lines:
+        if re.match(r"    \S", line) and not re.match(r"    [})\]]", line) or not found:
+            found.append([])
+        found[-1].append(line)
+    return found
+
+
+@functools.cache
+def type_lines(crate, place):
+    """How many lines say what a type is: its declaration, and of `impl Model` what contracts see of it and what it keeps."""
+    stem, _, name = place.rpartition(".")
+    lines = [line for line in code_of(crate, stem).splitlines() if line.strip() and not line.strip().startswith(("//", "#["))]
+    found = []
+    for number, line in enumerate(lines):
+        if re.match(rf"\s*(pub(\([a-z]+\))? )?(struct|enum|trait|type) {name}\b", line):
+            found += [line for item in items_of(block_at(lines, number)) if not item[0].strip().startswith("ghost use ") for line in item]
+        elif re.match(rf"impl\b.* Model for {name}\b", line):
+            items = items_of(block_at(lines, number)[1:-1])
+            found += [line for item in items if re.match(r"\s*ghost (Value|view|invariant) ", item[0]) for line in item]
+    return len(found)
+
+
 def sums(found):
     definitions = definitions_of(found)
-    return f"{len(definitions)} definitions, {sum(map(lines_of, definitions))} lines, {sum(one[0] == 'type' for one in found)} types"
+    types = [one for one in found if one[0] == "type"]
+    of_types = sum(type_lines(crate, place) for _, crate, place in types)
+    return f"{len(definitions)} definitions, {sum(map(lines_of, definitions))} lines; {len(types)} types, {of_types} lines of theirs"
 
 
 def print_by_file(definitions):

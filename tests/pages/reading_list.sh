@@ -21,6 +21,11 @@ while read -r name lines; do
     rows=$((rows + 1))
     said=$(sed -nE "s/.* ([0-9,]+)( lines)? for (the )?\`?$name\`?,.*/\1/p" <<< "$page" | tr -d ,)
     [[ $lines == "$said" ]] || differs "$name takes $lines lines of definitions, and docs/PROOFS.md says ${said:-nothing}"
-done < <(list | sed -nE 's/^([a-z]+): .* ([0-9]+) lines.*/\1 \2/p')
+done < <(list | sed -nE 's/^([a-z]+): .* ([0-9]+) lines;.*/\1 \2/p')
+while read -r name lines; do
+    rows=$((rows + 1))
+    said=$(sed -nE "s/.*[(;] ?\`?$name\`?: ([0-9,]+)[;)].*/\1/p" <<< "$page" | tr -d ,)
+    [[ $lines == "$said" ]] || differs "the types of $name take $lines lines, and docs/PROOFS.md says ${said:-nothing}"
+done < <(list | sed -nE 's/^([a-z]+): .* ([0-9]+) lines of theirs.*/\1 \2/p')
 
 sum

@@ -1,5 +1,5 @@
 #!/usr/bin/env python3
-"""What stands in the fixed pieces of the page that shows a report: page_pieces.py ROOT names | tags | policy | hashes | makers."""
+"""What stands in the fixed pieces of the page that shows a report: page_pieces.py ROOT names | sizes | sum | tags | policy | hashes | makers."""
 import base64, hashlib, pathlib, re, sys
 
 root, asked = sys.argv[1:]
@@ -21,6 +21,11 @@ def policy():
 
 if asked == "names":
     print(" ".join(pieces))
+elif asked == "sizes":
+    for name, text in pieces.items():
+        print(name, len(text.encode()))
+elif asked == "sum":
+    print(hashlib.sha256(page.encode()).hexdigest())
 elif asked == "tags":
     # the tag that a text stands behind, and the one that it stands before
     for before, behind in zip(texts, texts[1:]):
