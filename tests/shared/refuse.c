@@ -1,6 +1,6 @@
 /* Preloaded to a program: refuses one of its calls to the system, and counts how many there were. REFUSED_PROGRAM is the name of the
-   program, REFUSED_CALL the kind of call (memory, open, read, write, clock, look, mode, lock, cut, sync, rename, remove), REFUSED_NUMBER which
-   of these is refused, from 1 on, or 0 for none, and CALL_COUNT the file that gets the count. Where KILLED is `before` or `after`, the call
+   program, REFUSED_CALL the kind of call (memory, open, read, write, clock, look, mode, lock, cut, sync, rename, remove, rmdir), REFUSED_NUMBER
+   which of these is refused, from 1 on, or 0 for none, and CALL_COUNT the file that gets the count. Where KILLED is `before` or `after`, the call
    isn't refused: the program is killed before it, or behind it, but never behind a call for memory, a read or a look at the clock. Where
    SLOWLY_STARTED is a number, what the program starts waits so many seconds before it becomes another program; where STARTS_LATE is one, the
    program waits so many milliseconds before it starts another. Where STARTS_REFUSED is a number, so many of its first starts are refused, by
@@ -168,6 +168,15 @@ int unlink(const char *path) {
     static int (*real)(const char *);
     if (!real) real = dlsym(RTLD_NEXT, "unlink");
     if (is_refused("remove")) { errno = EACCES; return -1; }
+    int status = real(path);
+    ended();
+    return status;
+}
+
+int rmdir(const char *path) {
+    static int (*real)(const char *);
+    if (!real) real = dlsym(RTLD_NEXT, "rmdir");
+    if (is_refused("rmdir")) { errno = EACCES; return -1; }
     int status = real(path);
     ended();
     return status;

@@ -85,6 +85,42 @@ ln -s none dangling
 for path in none/journal folder fifo /dev/null /dev/full /dev/zero '' other/under; do
     isnt 3 "fault: cannot read $path" "$path"
 done
+# A file of 2 GB, whose head is another, is refused by its first bytes: there is no room for all of it.
+truncate -s 2G sparse
+head -n 1 whole > long
+truncate -s 2G long
+for journal in sparse long; do
+    (
+        ulimit -v 1000000
+        isnt 2 'refused 43 journal mismatch' "$journal"
+        echo "$rows $differing" > counted
+    )
+    read -r rows differing < counted
+    is_same "how long $journal is still" 2147483648 "$(stat -c %s "$journal")"
+done
+# Nor does `page` read further, or anything but a regular file.
+status=0
+"$program" run "$graph" "${range[@]}" --journal other > report 2> err || status=$?
+for path in none folder fifo /dev/null /dev/full /dev/zero ''; do
+    tells 3 "fault: cannot read $path" page "$graph" report --journal "$path"
+done
+for journal in sparse long; do
+    (
+        ulimit -v 1000000
+        tells 2 'refused 43 journal mismatch' page "$graph" report --journal "$journal"
+        echo "$rows $differing" > counted
+    )
+    read -r rows differing < counted
+done
+rm sparse long
+: > empty
+head -c 20 other > begun
+for journal in empty begun; do
+    tells 2 'refused 43 journal mismatch' page "$graph" report --journal "$journal"
+done
+"$program" page "$graph" report --journal other > page
+holds 'that a page has the times of its journal' grep -q '@times 1' page
+is_same 'what ran' '' "$(< ran)"
 # One that isn't there is made, by a link too.
 goes_on dangling
 is_same 'how many lines there are behind a link' 6 "$(wc -l < none)"

@@ -1,8 +1,9 @@
 #!/usr/bin/env bash
 # Reports in files, by `--out` of single, dry, run and clear: what stands there is what goes to standard output without it, the exit
 # status is the same, and the file holds all of the old report or all of the new one, also where a call to the system is refused, or the
-# program is killed there. What can't be written is told before any program is started. Needs a C compiler for the calls. The last line
-# is the sum, and the status is 1 where something differs.
+# program is killed there; a report that can't take its place stays beside it. What can't be written is told before any program is started.
+# Needs a C compiler for the calls, and for files that can't be replaced root, `unshare`, `setpriv` and `chattr`. The last line is the sum,
+# and the status is 1 where something differs.
 set -euo pipefail
 
 source "$(dirname "$(readlink -f "${BASH_SOURCE[0]}")")/../shared/compare.sh"
@@ -116,6 +117,13 @@ is_same 'the file of that name' theirs "$(< "$report.new1")"
 rm "$report.new1"
 is_same 'the files beside it' report "$(names)"
 
+# A thousand of them, and more.
+(cd "$folder" && seq -f 'report.new%.0f' 1 1234 | xargs touch)
+"$program" "${single[@]}" --out "$report"
+holds 'a report of which a thousand names are taken' cmp "$work/plain" "$report"
+is_same 'how many files of these names there are' 1234 "$(names | grep -c '^report\.new[0-9]*$')"
+find "$folder" -name 'report.new*' -delete
+
 # A file that can't grow beyond a block.
 big=(dry every_key/graph.json every_key/table.json --from 2024-01-01 --to 2024-02-29)
 echo old > "$report"
@@ -142,6 +150,145 @@ for _ in {1..20}; do
     cmp -s "$work/plain" "$report" || cmp -s "$work/other" "$report" || differs 'a report that two have written'
 done
 is_same 'the files beside a report that two have written' report "$(names)"
+
+# ---- what its line reads or starts
+
+mkdir "$work/named" "$work/named/bin"
+cd "$work/named"
+cp "$graph" g
+cp "$work/was" r
+echo '[]' > t
+echo 'a 2024-01-01' > s
+echo j > j
+printf '#!/bin/sh\nexec "$@"\n' > bin/launcher
+chmod +x bin/launcher
+: > z
+ln -s g link
+ln g hard
+sums() {
+    sha256sum g r t s j z bin/launcher
+}
+before=$(sums)
+# A line is wrong by its --out, before anything is read, and changes no file.
+overwrites() {
+    local status=0
+    "$program" "$@" > "$work/out" 2> "$work/err" || status=$?
+    is_same "the status of $*" 2 "$status"
+    is_same "what is printed of $*" '' "$(< "$work/out")"
+    is_same "what is told of $*" "error: the argument '--out <PATH>' cannot name a file that the command reads, or its journal" \
+        "$(head -n 1 "$work/err")"
+    is_same "what stands there behind $*" "$before" "$(sums)"
+    is_same "what ran of $*" '' "$(ls "$work/ran" 2> "$work/said" || true)"
+}
+on=(--on 2024-01-01)
+for path in ./g "$work/named/g" bin/../g link hard; do
+    overwrites run g "${on[@]}" --out "$path"
+    overwrites run "$path" "${on[@]}" --out g
+    overwrites single g t --at 2024-01-01 --zone-file "$path" --out hard
+done
+overwrites dry g t "${on[@]}" --out ./t
+overwrites dry g t "${on[@]}" --keep r --out ./t
+overwrites single g t --at 2024-01-01 --out ./t
+overwrites single g t --at 2024-01-01 --zone-file z --out ./z
+overwrites clear g r --seeds s "${on[@]}" --out ./s
+overwrites clear g r --seeds s "${on[@]}" --plan --out ./s
+overwrites clear g r --failed "${on[@]}" --table t --out ./t
+overwrites run g "${on[@]}" --journal j --out ./j
+overwrites run g "${on[@]}" --journal new --out ./new
+overwrites run g "${on[@]}" --journal bin/new --out ./bin/new
+overwrites clear g r --failed "${on[@]}" --journal j --out ./j
+overwrites run g "${on[@]}" --launcher ./bin/launcher --out bin/launcher
+overwrites run none "${on[@]}" --launcher ./bin/launcher --out bin/launcher
+overwrites clear g r --failed "${on[@]}" --launcher ./bin/launcher --out bin/launcher
+PATH=$work/named/bin:$PATH overwrites run g "${on[@]}" --launcher launcher --out bin/launcher
+# The report may be replaced in the same words, and no others.
+overwrites clear g r --failed "${on[@]}" --out ./r
+overwrites run g "${on[@]}" --keep ./r --out r
+is_same 'that no journal was made' '' "$(ls new bin/new 2> "$work/said" || true)"
+
+# The folder of logs, whether it is there or not.
+for logs in logs logs/ ./logs bin/../logs; do
+    tells 3 'fault: cannot write logs' run g "${on[@]}" --logs "$logs" --out logs
+    tells 3 'fault: cannot write logs' run g "${on[@]}" --keep r --logs "$logs" --out logs
+    is_same 'that no logs were made' '' "$(ls -d logs 2> "$work/said" || true)"
+    is_same 'what ran' '' "$(ls "$work/ran" 2> "$work/said" || true)"
+done
+mkdir logs
+tells 3 'fault: cannot write ./logs' run g "${on[@]}" --logs logs --out ./logs
+# Others of the same name in other folders are others.
+"$program" run g "${on[@]}" --journal bin/report --logs bin/logs --out report
+is_same 'a report beside a journal of its name in another folder' '@backfill 2 d' "$(head -n 1 report)"
+rm -f "$work/ran"
+cd "$root/examples"
+
+# ---- what can't be replaced
+
+# Runs a line in a way of its own (the words before `--`) over an old report at a path, which has to end by this status and this line on
+# standard error.
+under() {
+    local name=$1 status=$2 line=$3 ended=0
+    shift 3
+    "$@" > "$work/out" 2> "$work/err" || ended=$?
+    is_same "the status of $name" "$status" "$ended"
+    is_same "what is told of $name" "$line" "$(< "$work/err")"
+    is_same "what is printed of $name" '' "$(< "$work/out")"
+}
+ran=(run "$graph" "${day[@]}" --out)
+mkdir "$work/a blank"
+fixed="$work/a blank/report"
+left_alone() {
+    is_same "the file of $1" old "$(< "$fixed")"
+    is_same "the files beside it, of $1" report "$(ls -A "$work/a blank")"
+    is_same "what ran of $1" '' "$(ls "$work/ran" 2> "$work/said" || true)"
+}
+echo old > "$fixed"
+
+if unshare -m mount --bind "$fixed" "$fixed" 2> "$work/said"; then
+    # shellcheck disable=SC2016
+    mounted=(unshare -m sh -c 'mount --bind "$1" "$1" && shift && exec "$@"' sh "$fixed" "$program")
+    under 'a file that is mounted' 3 "fault: cannot write $fixed" "${mounted[@]}" "${ran[@]}" "$fixed"
+    left_alone 'a file that is mounted'
+    # Where the system doesn't list what is mounted, the rename is what fails.
+    # shellcheck disable=SC2016
+    unlisted=(unshare -m sh -c 'mount --bind "$1" "$1" && mount -t tmpfs none /proc && shift && exec "$@"' sh "$fixed" "$program")
+    "$program" "${single[@]}" > "$work/plain"
+    under 'a file that is mounted, without a list' 3 "fault: cannot write $fixed: the report is in $fixed.new1" "${unlisted[@]}" "${single[@]}" --out "$fixed"
+    is_same 'the file that is mounted, without a list' old "$(< "$fixed")"
+    holds 'the report that is left' cmp "$work/plain" "$fixed.new1"
+    echo theirs > "$fixed.new2"
+    under 'one more' 3 "fault: cannot write $fixed: the report is in $fixed.new3" "${unlisted[@]}" "${single[@]}" --out "$fixed"
+    holds 'the report that is left beside others' cmp "$work/plain" "$fixed.new3"
+    rm "$fixed".new[123]
+else
+    skips 'a file that is mounted, since nothing can be mounted'
+fi
+sticky=(setpriv --bounding-set=-fowner --inh-caps=-fowner "$program")
+if [[ $(id -u) == 0 ]] && chown 65534 "$work/a blank" "$fixed" && setpriv --bounding-set=-fowner --inh-caps=-fowner true 2> "$work/said"; then
+    chmod 1777 "$work/a blank"
+    under "another's file in a sticky folder" 3 "fault: cannot write $fixed" "${sticky[@]}" "${ran[@]}" "$fixed"
+    left_alone "another's file in a sticky folder"
+    chmod 777 "$work/a blank"
+    "${sticky[@]}" "${single[@]}" --out "$fixed"
+    holds "another's file in a folder that isn't sticky" test "$(< "$fixed")" != old
+    echo old > "$fixed"
+else
+    skips "another's file in a sticky folder, for want of privileges"
+fi
+if chattr +i "$fixed" 2> "$work/said"; then
+    under 'an immutable file' 3 "fault: cannot write $fixed" "$program" "${ran[@]}" "$fixed"
+    chattr -i "$fixed"
+    left_alone 'an immutable file'
+    chattr +a "$fixed"
+    under 'a file that can only grow' 3 "fault: cannot write $fixed" "$program" "${ran[@]}" "$fixed"
+    chattr -a "$fixed"
+    left_alone 'a file that can only grow'
+else
+    skips 'an immutable file, since there are none here'
+fi
+# One that nobody may write to is replaced, since its folder may be written to.
+chmod 444 "$fixed"
+"$program" "${single[@]}" --out "$fixed"
+holds 'a file that may only be read' test "$(< "$fixed")" != old
 
 # ---- each call to the system
 
@@ -181,6 +328,11 @@ outcome() {
     if [[ $status -le 1 && -z $killed ]]; then
         cmp -s "$work/new" "$report" || differs "the file, of $call $number refused"
         [[ $call == remove || $(names) == report ]] || differs "what is left beside the file, of $call $number refused"
+    elif [[ $status -eq 3 && $call-$killed == rename- ]]; then
+        [[ $(< "$report") == old ]] || differs 'the file that could not be replaced'
+        [[ $(< "$work/err") == "fault: cannot write $report: the report is in $report.new1" ]] || differs "$(< "$work/err"), of rename"
+        cmp -s "$work/new" "$report.new1" || differs 'the report that is left'
+        [[ $(names) == $'report\nreport.new1' ]] || differs 'what is left beside the file that could not be replaced'
     elif [[ $status -eq 3 && -z $killed ]]; then
         [[ $(< "$report") == old ]] || differs "the file at a fault, of $call $number refused"
         [[ $(< "$work/err") =~ $(told_at "$call") ]] || differs "$(< "$work/err"), of $call $number"
@@ -218,7 +370,7 @@ each() {
     done
     echo "$calls calls of $call: ${*:1:2}"
 }
-for call in memory open read write look mode sync rename remove; do
+for call in memory open read write look mode sync rename remove rmdir; do
     each "$call" "${single[@]}" --out "$report"
     each "$call" clear every_key/graph.json "$work/was" "${range[@]}" "${clearing[@]}" --out "$report"
 done

@@ -16,7 +16,7 @@ use Rattle.bf_device.specs.declared.sending.Cause.{Cause}
 use Rattle.bf_device.specs.declared.sending.Cause.TheVariants as cause
 use Rattle.bf_device.specs.declared.sending.WriteFault.{WriteFault}
 use Rattle.bf_command_fault.specs.declared.fault.CommandFault.{CommandFault}
-use Rattle.bf_command_fault.specs.declared.fault.CommandFault.TheVariants.{BadMoment, Check, OutOfMemory, CannotLaunch, CannotRead, CannotWriteFile, CannotWrite, Journal, JournalInUse, Range, Read, Stopped}
+use Rattle.bf_command_fault.specs.declared.fault.CommandFault.TheVariants.{BadMoment, Check, OutOfMemory, CannotLaunch, CannotRead, CannotWriteFile, CannotWrite, Journal, JournalInUse, Range, Read, ReportLeft, Stopped}
 use Rattle.bf_command_fault.specs.declared.stop.StopFault.{StopFault}
 use Rattle.bf_command_fault.specs.declared.status.Status.{Status}
 use Rattle.bf_command_fault.specs.Refusal.{of_cause, of_write}
@@ -80,6 +80,7 @@ module _ {files : Files} {asked : GraphAsked} {read : List ℕ} {zone : Option (
   check_files OutOfMemory is = tt
   check_files (CannotRead path) is = absurd is
   check_files (CannotWriteFile path) is = absurd is
+  check_files (ReportLeft path left) is = absurd is
   check_files (CannotWrite n) is = absurd is
   check_files fault is = (bytes.readable, λ graph held are. fault_in read graph zone held (bytes.alike graph held are) fault is)
 
@@ -107,6 +108,7 @@ module _ {files : Files} (asked : ListAsked) (range : RunRange) (means : MeansRa
   list_files OutOfMemory is = (range, means, tt)
   list_files (CannotRead path) is = absurd is
   list_files (CannotWriteFile path) is = absurd is
+  list_files (ReportLeft path left) is = absurd is
   list_files fault is = (range, means, (bytes.readable, λ graph held are. list_fault read graph zone held (bytes.alike graph held are) range fault is))
 
 -- ---- `single`
@@ -128,6 +130,7 @@ module _ {files : Files} (asked : SingleAsked) (at : Timestamp) (means : Means (
   single_files OutOfMemory is = (at, means, tt)
   single_files (CannotRead path) is = absurd is
   single_files (CannotWriteFile path) is = absurd is
+  single_files (ReportLeft path left) is = absurd is
   single_files fault is = (at, means, (bytes.readable, λ graph other held are holds. (let same = bytes.alike graph other held are holds in single_fault read graph zone held same.0 table other same.1 at fault is)))
 
 -- ---- `dry`
@@ -149,6 +152,7 @@ module _ {files : Files} (asked : DryAsked) (range : RunRange) (means : MeansRan
   dry_files OutOfMemory is = (range, means, tt)
   dry_files (CannotRead path) is = absurd is
   dry_files (CannotWriteFile path) is = absurd is
+  dry_files (ReportLeft path left) is = absurd is
   dry_files fault is = (range, means, (bytes.readable, λ graph other held are holds. (let same = bytes.alike graph other held are holds in dry_fault read graph zone held same.0 table other same.1 (is_single_threaded_in asked.progress) range fault is)))
 
 -- ---- `run`
@@ -196,6 +200,7 @@ module _ {files : Files} (machine : Machine) (asked : RunAsked) (range : RunRang
     by_files may_lose OutOfMemory is = tt
     by_files may_lose (CannotRead path) is = absurd is
     by_files may_lose (CannotWriteFile path) is = absurd is
+    by_files may_lose (ReportLeft path left) is = absurd is
     by_files may_lose fault is = (bytes.readable, λ graph held are. run_fault read graph zone held (bytes.alike graph held are) (launching_asked_of asked.launcher asked.logs) may_lose range fault is)
 
     as_run : (may_lose : Losing) (fault : CommandFault) → IsRunFaultBy (launching_asked_of asked.launcher asked.logs) may_lose files machine.journals asked.graph None range fault → IsRunFaultBy (launching_asked_of asked.launcher asked.logs) may_lose files machine.journals asked.graph asked.journal range fault

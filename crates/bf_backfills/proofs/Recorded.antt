@@ -9,6 +9,8 @@ use Rattle.bf_xcom.specs.declared.values.Given.{Given}
 use Rattle.bf_try.specs.declared.answers.Raw.{Raw}
 use Rattle.bf_try.specs.Tries.{Ledger}
 use Rattle.bf_kept.specs.Kept.{nothing}
+use Rattle.bf_journal.specs.Heads.{head_text}
+use Rattle.bf_journal.specs.declared.fault.JournalFault.{JournalFault}
 use Rattle.bf_process.specs.Words.{LaunchingOf, MayAnswer}
 use Rattle.bf_table.specs.declared.table.TableEntry.{TableEntry}
 use Rattle.bf_report.specs.declared.report.Report.{Report}
@@ -17,7 +19,7 @@ use Rattle.bf_command_line.specs.declared.forms.JournalAsked.{JournalAsked}
 use Rattle.bf_command_fault.proofs.Leaving.{leaves_due}
 use Rattle.bf_command_fault.specs.Refusal.{Leaves, Sends}
 use Rattle.bf_command_fault.specs.declared.fault.CommandFault.{CommandFault}
-use Rattle.bf_command_fault.specs.declared.fault.CommandFault.TheVariants.{CannotWrite, Journal, OutOfMemory, Range, Stopped}
+use Rattle.bf_command_fault.specs.declared.fault.CommandFault.TheVariants.{CannotRead, CannotWrite, Journal, JournalInUse, OutOfMemory, Range, Stopped}
 use Rattle.bf_command_fault.specs.declared.stop.StopFault.{StopFault}
 use Rattle.bf_planning.specs.declared.range.RunRange.{RunRange}
 use Rattle.bf_commands.specs.Cleared.{MayAnswerBy}
@@ -28,7 +30,21 @@ use Rattle.bf_planning.specs.Clocks.{AreClocksOf}
 use Rattle.bf_commands.specs.Programs.{Hearing, HearingTries, launched_by}
 use Rattle.bf_disk.specs.Files.{Files}
 use Rattle.bf_backfills.specs.Commands.{OfJournal}
-use Rattle.bf_backfills.specs.inner.Journals.{IsFaultOfJournaledBackfill, IsFaultOfRecordedRun, IsReportAfterBy, IsReportOver, journaled_fault}
+use Rattle.bf_backfills.specs.inner.Journals.{IsFaultOfJournaledBackfill, IsFaultOfOpening, IsFaultOfRecordedRun, IsReportAfterBy, IsReportOver, journaled_fault}
+
+-- where the journal can't be opened, or has another head
+pub opened_fault : (journals : Files) (asked : JournalAsked) (before : Ledger) (cleared : Heading) (logs : Option (List ℕ)) (dag : Dag) (found : List Interval) (fault : CommandFault)
+    → IsFaultOfOpening journals asked (head_text dag found cleared) fault → IsFaultOfJournaledBackfill journals asked before cleared logs dag found fault
+opened_fault journals asked before cleared logs dag found (CannotRead path) is = is
+opened_fault journals asked before cleared logs dag found JournalInUse is = is
+opened_fault journals asked before cleared logs dag found (Journal JournalFault.Mismatch) is = is
+opened_fault journals asked before cleared logs dag found OutOfMemory is = tt
+opened_fault journals asked before cleared logs dag found fault is = absurd is
+
+pub opened_leaves : (journals : Files) (asked : JournalAsked) (head : List ℕ) (Halted : Type 0) (IsDue : List ℕ → Type 0) (before : Option (List ℕ)) (fault : CommandFault)
+    → IsFaultOfOpening journals asked head fault → Leaves Halted IsDue before before fault
+opened_leaves journals asked head Halted IsDue before (CannotWrite n) is = absurd is
+opened_leaves journals asked head Halted IsDue before fault is = refl
 
 module _ (journals : Files) (asked : JournalAsked) (held : List ℕ) (is_held : OfJournal journals asked (λ told. held ≡ told)) (before : Ledger) (cleared : Heading) (dag : Dag) (found : List Interval) where
   module _ (logs : Option (List ℕ)) where

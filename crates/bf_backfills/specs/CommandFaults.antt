@@ -14,7 +14,7 @@ use Rattle.bf_interval.specs.declared.interval.Interval.{Interval}
 use Rattle.bf_report_reader.specs.Faults.{Tells as TellsFault}
 use Rattle.bf_report_reader.specs.declared.fault.ReportFault.{ReportFault}
 use Rattle.bf_command_fault.specs.declared.fault.CommandFault.{CommandFault}
-use Rattle.bf_command_fault.specs.declared.fault.CommandFault.TheVariants.{BadMoment, Check as NotSound, Clear as NotCleared, OutOfMemory, CannotLaunch, CannotRead, CannotWriteFile, CannotWrite, Journal as BadJournal, JournalInUse, Range as BadRange, Read as NotRead, Report as BadReport, Seeds as BadSeeds, Stopped, Table as BadTable}
+use Rattle.bf_command_fault.specs.declared.fault.CommandFault.TheVariants.{BadMoment, Check as NotSound, Clear as NotCleared, OutOfMemory, CannotLaunch, CannotRead, CannotWriteFile, CannotWrite, Journal as BadJournal, JournalInUse, ReportLeft, Range as BadRange, Read as NotRead, Report as BadReport, Seeds as BadSeeds, Stopped, Table as BadTable}
 use Rattle.bf_command_fault.specs.declared.stop.StopFault.{StopFault}
 use Rattle.bf_planning.specs.declared.range.RunRange.{RunRange}
 use Rattle.bf_commands.specs.Cleared.{IsFaultBefore, IsReady, IsUnclearable, StopsClearing}
@@ -39,6 +39,7 @@ IsFaultOfFiles files paths Has (CannotRead path) = IsFirstUntold files paths pat
 IsFaultOfFiles files paths Has OutOfMemory = Unit {0}
 IsFaultOfFiles files paths Has BadMoment = ⊥
 IsFaultOfFiles files paths Has (CannotWriteFile path) = ⊥
+IsFaultOfFiles files paths Has (ReportLeft path left) = ⊥
 IsFaultOfFiles files paths Has fault = AreReadable files paths × Has
 
 -- the first fault of the files and of the graph

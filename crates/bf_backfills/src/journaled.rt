@@ -2,6 +2,7 @@
 ghost use Rattle.std.specs.Prelude.{◌≡◌, [], Bool, IfErr, IfOk, option_map, string_bytes};
 ghost use Rattle.bf_clear.specs.Keeping.{kept_in};
 ghost use Rattle.bf_kept.specs.Kept.{AreFit, nothing};
+ghost use Rattle.bf_journal.specs.Heads.{head_text};
 ghost use Rattle.bf_process.specs.Words.{MayAnswer, launching_of};
 ghost use Rattle.bf_device.specs.Device.{HasHalted};
 ghost use Rattle.bf_command_fault.specs.Refusal.{Leaves, Sends};
@@ -19,7 +20,7 @@ use bf_commands::{
 use bf_device::Write;
 use bf_disk::{Journals, OpenFault};
 use bf_input::GraphFiles;
-use bf_journal::Cuttable;
+use bf_journal::{ClearedTask, Cuttable, JournalFault, head_of};
 use bf_planning::{DatedPlan, RunRange, dated_plan_in};
 use bf_process::Starter;
 use bf_table::Table;
@@ -29,13 +30,15 @@ use std::sync::Wait;
 use std::thread::Threads;
 use std::time::Clock;
 
-/// Gives the command's fault where the journal at `path` can't be opened: unreadable, in use, or want of memory.
+/// Gives the command's fault where the journal at `path` can't be opened: unreadable, in use, of another backfill, or
+/// want of memory.
 fn fault_of_opening(path: String, fault: OpenFault) -> CommandFault
     ensures { result ≡ of_open (string_bytes path) fault }
 {
     match fault {
         OpenFault::CannotRead => CommandFault::CannotRead(Text::new(path)),
         OpenFault::InUse => CommandFault::JournalInUse,
+        OpenFault::OfAnother => CommandFault::Journal(JournalFault::Mismatch),
         OpenFault::OutOfMemory => CommandFault::OutOfMemory,
     }
 }
@@ -60,26 +63,27 @@ struct NamedJournal<D: Cuttable + Drop> {
     path: String,
 }
 
-/// Opens the journal that is asked for, or makes it, locks it, and reads all that it holds. `Err` where it can't be
-/// opened, locked or read, another backfill has it open, or memory runs out.
+/// Opens the journal that is asked for, or makes it, locks it, and reads all that it holds, its head first. `Err` where it
+/// can't be opened, locked or read, has another head, another backfill has it open, or memory runs out.
 fn open_named_journal<J: Journals>(
     journals: &J,
     alloc: Global,
     asked: JournalAsked,
+    head: &[u8],
 ) -> Result<NamedJournal<J::Device>, CommandFault>
     ensures held { IfOk result (λ named. OfJournal (J.journal journals.now) asked
         (λ held. named.journal.held.items ≡ held)) }
     ensures stop_after { IfOk result (λ named. named.journal.stop_after ≡ asked.stop_after) }
     ensures retry_failed { IfOk result (λ named. named.journal.retry_failed ≡ asked.retry_failed) }
     ensures path { IfOk result (λ named. string_bytes named.path ≡ string_bytes asked.path) }
-    ensures fault { IfErr result (IsFaultOfOpening (J.journal journals.now) asked) }
+    ensures fault { IfErr result (IsFaultOfOpening (J.journal journals.now) asked head.now) }
 {
     let JournalAsked {
         path,
         stop_after,
         retry_failed,
     } = asked;
-    match journals.open_journal(alloc, path.as_str()) {
+    match journals.open_journal(alloc, path.as_str(), head) {
         Ok(opened) => Ok(NamedJournal {
             journal: Journal {
                 held: opened.held,
@@ -91,6 +95,26 @@ fn open_named_journal<J: Journals>(
         }),
         Err(fault) => Err(fault_of_opening(path, fault)),
     }
+}
+
+/// Opens the journal that is asked for, as `open_named_journal` does, for a backfill that clears these tasks.
+fn open_journal_of<J: Journals>(
+    journals: &J,
+    alloc: Global,
+    asked: JournalAsked,
+    dated: &DatedPlan,
+    cleared: &[ClearedTask],
+) -> Result<NamedJournal<J::Device>, CommandFault>
+    ensures held { IfOk result (λ named. OfJournal (J.journal journals.now) asked
+        (λ held. named.journal.held.items ≡ held)) }
+    ensures stop_after { IfOk result (λ named. named.journal.stop_after ≡ asked.stop_after) }
+    ensures retry_failed { IfOk result (λ named. named.journal.retry_failed ≡ asked.retry_failed) }
+    ensures path { IfOk result (λ named. string_bytes named.path ≡ string_bytes asked.path) }
+    ensures fault { IfErr result (IsFaultOfOpening (J.journal journals.now) asked
+        (head_text dated.now.plan.dag dated.now.runs cleared.now)) }
+{
+    let head = head_of(alloc, &dated.plan, &dated.runs, cleared)?;
+    open_named_journal(journals, alloc, asked, head.as_bytes())
 }
 
 /// Opens the journal, starts the programs of the tries that it doesn't keep, records these, and writes the report; true
@@ -121,7 +145,8 @@ where
         (RT.may_hear crew.now.rt.now)) dated.now.plan.dag dated.now.runs)
         dated.now.plan.dag dated.now.runs text success) (W.written out.old) (W.written out.new)) }
 {
-    let NamedJournal { journal, path } = open_named_journal(journals, crew.alloc, asked)?;
+    let opened = open_journal_of(journals, crew.alloc, asked, dated, &[])?;
+    let NamedJournal { journal, path } = opened;
     let Recorded { report, device: _ } = record_programs(crew, dated, journal, out);
     match report {
         Ok(success) => Ok(success),
@@ -239,7 +264,14 @@ where
         clearing.now.dated.now.plan.dag clearing.now.dated.now.runs text success)
         (W.written out.old) (W.written out.new)) }
 {
-    let NamedJournal { journal, path } = open_named_journal(journals, crew.alloc, asked)?;
+    let opened = open_journal_of(
+        journals,
+        crew.alloc,
+        asked,
+        clearing.dated,
+        &clearing.cleared,
+    )?;
+    let NamedJournal { journal, path } = opened;
     let Recorded { report, device: _ } = record_resumed_report(
         crew, clearing, answers, journal, out,
     );

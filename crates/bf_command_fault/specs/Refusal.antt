@@ -29,7 +29,7 @@ use Rattle.bf_device.specs.declared.sending.Cause.TheVariants as cause
 use Rattle.bf_device.specs.declared.sending.WriteFault.{WriteFault}
 use Rattle.bf_device.specs.Device.{sent}
 use Rattle.bf_command_fault.specs.declared.fault.CommandFault.{CommandFault}
-use Rattle.bf_command_fault.specs.declared.fault.CommandFault.TheVariants.{Read, Check, Table, Range, Report, Journal, Clear, Seeds, JournalInUse, UnknownIndex, BadMoment, OutOfMemory, CannotRead, CannotWriteFile, CannotWrite, CannotLaunch, Stopped}
+use Rattle.bf_command_fault.specs.declared.fault.CommandFault.TheVariants.{Read, Check, Table, Range, Report, Journal, Clear, Seeds, JournalInUse, UnknownIndex, BadMoment, OutOfMemory, CannotRead, CannotWriteFile, ReportLeft, CannotWrite, CannotLaunch, Stopped}
 use Rattle.bf_command_fault.specs.declared.range.RangeFault.TheVariants.{Unlisted}
 use Rattle.bf_command_fault.specs.declared.stop.StopFault.{StopFault}
 use Rattle.bf_command_fault.specs.declared.status.Status.{Status}
@@ -54,6 +54,7 @@ number_of OutOfMemory = None
 number_of (CannotRead path) = None
 number_of (CannotWrite sent) = None
 number_of (CannotWriteFile path) = None
+number_of (ReportLeft path left) = None
 number_of (CannotLaunch path) = None
 number_of (Stopped fault) = None
 
@@ -84,6 +85,8 @@ words_of OutOfMemory = codes "out of memory"
 words_of (CannotRead path) = codes "cannot read " ++ path
 words_of (CannotWrite sent) = codes "cannot write"
 words_of (CannotWriteFile path) = codes "cannot write " ++ path
+words_of (ReportLeft path left) =
+    codes "cannot write " ++ (path ++ (codes ": the report is in " ++ left))
 words_of (CannotLaunch path) = codes "cannot start " ++ path
 words_of (Stopped fault) = stop_words fault
 

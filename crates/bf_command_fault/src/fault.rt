@@ -53,6 +53,8 @@ pub enum CommandFault {
     CannotWrite(u64),
     /// The file at this path, as the line spells it, can't be written or replaced.
     CannotWriteFile(Text),
+    /// The report can't take the place of the file at `path`, as the line spells it, and stands whole in the file `left`.
+    ReportLeft { path: Text, left: Text },
     /// The launcher at this path, as the line spells it, can't be started.
     CannotLaunch(Text),
     /// The backfill stopped before its end.
@@ -81,6 +83,7 @@ impl CommandFault {
             | CommandFault::CannotRead(_)
             | CommandFault::CannotWrite(_)
             | CommandFault::CannotWriteFile(_)
+            | CommandFault::ReportLeft { path: _, left: _ }
             | CommandFault::CannotLaunch(_)
             | CommandFault::Stopped(_) => None,
         }
@@ -133,6 +136,9 @@ impl fmt::Display for CommandFault {
             CommandFault::CannotRead(path) => write!(f, "cannot read {path}"),
             CommandFault::CannotWrite(_) => write!(f, "cannot write"),
             CommandFault::CannotWriteFile(path) => write!(f, "cannot write {path}"),
+            CommandFault::ReportLeft { path, left } => {
+                write!(f, "cannot write {path}: the report is in {left}")
+            }
             CommandFault::CannotLaunch(path) => write!(f, "cannot start {path}"),
             CommandFault::Stopped(fault) => write!(f, "{fault}"),
         }

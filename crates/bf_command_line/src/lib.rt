@@ -7,6 +7,7 @@
 mod choice;
 mod clearing;
 mod forms;
+mod naming;
 mod programs;
 mod range;
 mod reading;
@@ -21,4 +22,5 @@ pub use forms::{
     ExplainAsked, Format, GraphAsked, JournalAsked, ListAsked, PageAsked, RangeAsked, RunAsked,
     SeedAsked, Shell, ShowAsked, SingleAsked, StartsAsked, TaskAsked,
 };
+pub use naming::overwriting_error_of;
 pub use reading::asked;

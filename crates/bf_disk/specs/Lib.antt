@@ -3,3 +3,4 @@ pub mod Source
 pub mod Stored
 pub mod Disks
 pub mod Journals
+pub mod inner

@@ -1,5 +1,5 @@
 -- What a source gives of a file.
-use Rattle.std.specs.Prelude.{◌≡◌, ◌+◌, ℕ, List, take, Option, Some, None, Result, Ok, Err, Vec, find, option_map, ⊤}
+use Rattle.std.specs.Prelude.{◌≡◌, ◌≢◌, ◌+◌, ◌++◌, ℕ, List, take, Option, Some, None, Result, Ok, Err, Vec, find, option_map, ⊤}
 use Rattle.std.specs.Global.{Global}
 use Rattle.std.specs.Str.{bytes_eq}
 use Rattle.bf_disk.specs.declared.source.SourceFault.{SourceFault}
@@ -24,6 +24,19 @@ GivesFirst count (Some held) (Ok bytes) = bytes.items ≡ take count held
 GivesFirst count (Some held) (Err fault) = fault ≡ OutOfMemory
 GivesFirst count None (Ok bytes) = ⊥
 GivesFirst count None (Err fault) = ⊤
+
+-- all bytes of a file that begins with these, and none of one that begins otherwise
+abbrev pub IsBehind : List ℕ → List ℕ → Option (Vec ℕ Global) → Type 0
+IsBehind front held (Some bytes) = bytes.items ≡ held
+IsBehind front held None = (rest : List ℕ) → held ≢ front ++ rest
+
+-- and a fault for one that can't be read
+abbrev pub GivesBehind : List ℕ → Option (List ℕ) → Result (Option (Vec ℕ Global)) SourceFault
+    → Type 0
+GivesBehind front (Some held) (Ok read) = IsBehind front held read
+GivesBehind front (Some held) (Err fault) = fault ≡ OutOfMemory
+GivesBehind front None (Ok read) = ⊥
+GivesBehind front None (Err fault) = ⊤
 
 -- what the first file of this path holds
 abbrev pub file_in : List (List ℕ × List ℕ) → List ℕ → Option (List ℕ)

@@ -5,9 +5,9 @@ ghost use Rattle.bf_disk.specs.Disks.{has_failed_on};
 use crate::source::{Source, SourceFault};
 use bf_device::Input;
 use std::fs::File;
-use std::io;
 use std::io::ErrorKind;
 use std::rt::Files;
+use std::{fs, io};
 
 /// A path as it was given, and the path of the file that is replaced: where the first is a link, the file it leads to.
 #[derive(Drop)]
@@ -65,5 +65,14 @@ impl<'a, R: Files> Source for Disk<'a, R> {
     /// Opens the file at a path for reading. `Err` where it can't be opened, or at want of memory.
     fn open(&mut self, path: &str) -> Result<Input<R::File>, SourceFault> {
         Ok(Input::new(File::open(self.rt, path)?))
+    }
+
+    /// Opens the file at a path for reading, once it was seen that it is a regular one: another might wait for ever to
+    /// be opened. `Err` where it isn't, can't be opened, or at want of memory.
+    fn open_regular(&mut self, path: &str) -> Result<Input<R::File>, SourceFault> {
+        if !fs::metadata(self.rt, path)?.is_file() {
+            return Err(SourceFault::CannotRead);
+        }
+        self.open(path)
     }
 }

@@ -18,6 +18,8 @@ pub enum OpenFault {
     CannotRead,
     /// Another backfill has it open.
     InUse,
+    /// It begins neither with the head that is asked for nor as a beginning of that does.
+    OfAnother,
     /// Memory ran out.
     OutOfMemory,
 }
@@ -41,13 +43,16 @@ pub trait Journals {
     ghost journal: { Self → List ℕ → Option (Option (List ℕ)) };
 
     /// Opens the journal at a path, or makes it, and reads its bytes. While it is open, another backfill that opens it
-    /// gets `InUse`. `Err` also where it can't be opened or read, or at want of memory.
+    /// gets `InUse`. `OfAnother` where its first bytes, as many as `head` has, aren't those or all before the end; `Err`
+    /// also where it can't be opened or read, or at want of memory.
     fn open_journal(
         &self,
         alloc: Global,
         path: &str,
+        head: &[u8],
     ) -> Result<OpenJournal<Self::Device>, OpenFault>
-        ensures { IfSome (journal self.now path.now) (λ held. OpensJournal held result) };
+        ensures { IfSome (journal self.now path.now) (λ held.
+            OpensJournal head.now held result) };
 }
 
 /// Want of memory stays that; any other error of std becomes `CannotRead`.
@@ -73,11 +78,22 @@ fn open_or_make_file<R: Files>(rt: &R, path: &str) -> io::Result<R::File> {
     }
 }
 
-/// Reads all bytes from the file's position to its end.
-fn read_bytes<F: Read>(alloc: Global, file: &mut F) -> io::Result<Vec<u8>> {
+/// Reads all bytes from the file's start to its end. Reads first as many as `head` has: None where these are no beginning
+/// of it.
+fn read_behind_head<F: Read>(
+    alloc: Global,
+    file: &mut F,
+    head: &[u8],
+) -> io::Result<Option<Vec<u8>>> {
     let mut held = Vec::new(alloc);
+    file.by_ref()
+        .take(head.len() as u64)
+        .read_to_end(&mut held)?;
+    if !head.starts_with(&held) {
+        return Ok(None);
+    }
     file.read_to_end(&mut held)?;
-    Ok(held)
+    Ok(Some(held))
 }
 
 /// A file that one process at a time can lock, until it closes the file or ends.
@@ -108,23 +124,26 @@ where
 
     ghost journal = { λ _ _. None };
 
-    /// Opens the file at a path, or makes it, locks it, and reads its bytes. `Err(InUse)` where another process has it
-    /// locked, `CannotRead` where it isn't a regular file or a call fails.
+    /// Opens the file at a path, or makes it, locks it, and reads its bytes, no further than the head where it has
+    /// another. `Err(InUse)` where another process has it locked, `OfAnother` at another head, `CannotRead` where it
+    /// isn't a regular file or a call fails.
     fn open_journal(
         &self,
         alloc: Global,
         path: &str,
+        head: &[u8],
     ) -> Result<OpenJournal<Output<R::File>>, OpenFault> {
         let mut file = match open_or_make_file(self.rt, path) {
             Ok(file) => file,
             Err(error) => return Err(open_fault_of(&error)),
         };
         file.lock_for_one()?;
-        match read_bytes(alloc, &mut file) {
-            Ok(held) => Ok(OpenJournal {
+        match read_behind_head(alloc, &mut file, head) {
+            Ok(Some(held)) => Ok(OpenJournal {
                 held,
                 device: Output::new(file),
             }),
+            Ok(None) => Err(OpenFault::OfAnother),
             Err(error) => Err(open_fault_of(&error)),
         }
     }

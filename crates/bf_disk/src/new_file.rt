@@ -2,8 +2,10 @@
 ghost use Rattle.std.specs.Prelude.{◌≡◌, ◌≢◌, ◌≤◌, [], IfOk, length, string_bytes};
 
 use crate::disk::{Disk, Target};
+use crate::target::{refuse_fixed, target_of};
 use bf_device::MOST_INTERRUPTIONS;
-use bf_file::{Folder, ReplaceFault, Replacement};
+use bf_file::{Folder, PlaceFault, ReplaceFault, Replacement};
+use bf_value::Text;
 use std::alloc::Global;
 use std::fs;
 use std::fs::{File, OpenFile, OpenOptions, Permissions};
@@ -12,8 +14,8 @@ use std::os::unix::fs::{OpenOptionsExt, PermissionsExt};
 use std::rt::Files;
 
 /// How many names are tried for a new file. One is taken while another backfill writes its report, or where one was
-/// killed meanwhile.
-const MOST_NEW_FILES: u32 = 1_000;
+/// killed meanwhile or couldn't rename it.
+const MOST_NEW_FILES: u32 = 1_000_000;
 
 /// A file on the disk, and its path.
 #[derive(Drop)]
@@ -31,27 +33,6 @@ pub struct NewFile<'a, R: Files> {
     target: String,
     made: Option<Made<R::File>>,
     failed: bool,
-}
-
-/// Answers the path of the file to be replaced, links followed; a path without a file is itself. `Err` where it is a
-/// folder, a device, a broken link or empty, the system refuses, or memory runs out.
-fn target_of<R: Files>(rt: &R, alloc: Global, path: &str) -> Result<String, ReplaceFault> {
-    let found = match fs::symlink_metadata(rt, path) {
-        Ok(found) => found,
-        Err(error) if error.kind() == ErrorKind::NotFound && !path.is_empty() => {
-            return Ok(String::from_str(alloc, path)?);
-        }
-        Err(error) => return Err(error.into()),
-    };
-    if found.is_file() {
-        return Ok(String::from_str(alloc, path)?);
-    }
-    let target = rt.canonicalize(alloc, path)?.into_string();
-    if fs::metadata(rt, target.as_str())?.is_file() {
-        Ok(target)
-    } else {
-        Err(ReplaceFault::CannotReplace)
-    }
 }
 
 /// The permissions of the file at the path `target`; None where there is no file. `Err` where the system refuses.
@@ -94,7 +75,7 @@ fn give_permissions<R: Files>(
 }
 
 /// Makes a file beside `target`, with the permissions of the one there, under the first name `.new1`, `.new2` .. that
-/// is free. `Err` where 1,000 names are taken, the system refuses, or memory runs out.
+/// is free. `Err` where 1,000,000 names are taken, the system refuses, or memory runs out.
 fn make_beside<R: Files>(
     rt: &R,
     alloc: Global,
@@ -198,7 +179,8 @@ impl<'a, R: Files> Replacement for NewFile<'a, R> {
 }
 
 /// Makes a new file beside the one at a path and removes it again, to see that it can be made. Answers the path with
-/// its file, and the new file that is made at its first write. `Err` where either fails, or at want of memory.
+/// its file, and the new file that is made at its first write. `Err` where either fails, where the old file can't be
+/// taken away, or at want of memory.
 fn try_begin<'a, R: Files>(
     rt: &'a R,
     alloc: Global,
@@ -207,6 +189,7 @@ fn try_begin<'a, R: Files>(
     ensures { IfOk result (λ begun. string_bytes begun.0.path ≡ path.now) }
 {
     let file = target_of(rt, alloc, path)?;
+    refuse_fixed(rt, alloc, file.as_str())?;
     let tried = make_beside(rt, alloc, file.as_str())?;
     fs::remove_file(rt, tried.name.as_str())?;
     let new = NewFile {
@@ -220,18 +203,22 @@ fn try_begin<'a, R: Files>(
     Ok((Target { path, file }, new))
 }
 
-/// Renames a new file to the path `file` that it replaces. `Err` where it was never made, or the rename fails; the new
-/// file is removed then.
-fn rename_made<R: Files>(new: &NewFile<'_, R>, file: &str) -> Result<(), ReplaceFault> {
-    let Some(made) = &new.made else {
-        return Err(ReplaceFault::CannotReplace);
+/// Renames a new file to the path `file` that it replaces. `Left` with its name where the rename fails, and `Lost` where
+/// it was never made.
+fn rename_made<R: Files>(new: NewFile<'_, R>, file: &str) -> Result<(), PlaceFault> {
+    let NewFile {
+        rt,
+        alloc: _,
+        target: _,
+        made,
+        failed: _,
+    } = new;
+    let Some(Made { file: _, name }) = made else {
+        return Err(PlaceFault::Lost(ReplaceFault::CannotReplace));
     };
-    match fs::rename(new.rt, made.name.as_str(), file) {
+    match fs::rename(rt, name.as_str(), file) {
         Ok(()) => Ok(()),
-        Err(error) => {
-            remove_made(new.rt, made);
-            Err(error.into())
-        }
+        Err(_) => Err(PlaceFault::Left(Text::new(name))),
     }
 }
 
@@ -243,11 +230,14 @@ impl<'a, R: Files> Folder for Disk<'a, R> {
 
     ghost placed = { λ _. None };
 
+    ghost left = { λ _. None };
+
     ghost begun = { λ d. path_begun d };
 
     ghost failed = { λ d. has_failed_on d };
 
-    /// Sees that a file beside the one at a path can be made, by making and removing one, and remembers the path for
+    /// Sees that the file at a path can be taken away, and one beside it made, by making and removing one, and remembers
+    /// the path for
     /// `rename`. `Err` where that fails; the failure is kept in `failed`.
     fn begin_replacement(
         &mut self,
@@ -266,12 +256,12 @@ impl<'a, R: Files> Folder for Disk<'a, R> {
         }
     }
 
-    /// Renames the new file to the file of the path last begun. `Err` where none was begun or the rename fails; the
-    /// failure is kept in `failed`.
-    fn rename(&mut self, new: NewFile<'a, R>) -> Result<(), ReplaceFault> {
+    /// Renames the new file to the file of the path last begun. `Left` where the rename fails, `Lost` where nothing was
+    /// begun or written; the failure is kept in `failed`.
+    fn rename(&mut self, new: NewFile<'a, R>) -> Result<(), PlaceFault> {
         let renamed = match &self.target {
-            Some(target) => rename_made(&new, target.file.as_str()),
-            None => Err(ReplaceFault::CannotReplace),
+            Some(target) => rename_made(new, target.file.as_str()),
+            None => Err(PlaceFault::Lost(ReplaceFault::CannotReplace)),
         };
         self.failed = self.failed || renamed.is_err();
         renamed

@@ -41,4 +41,13 @@ pub trait Source {
         ensures steady { IfSome (file self.old path.now) (λ _.
             NeverHalts Self.Device.interruptions Self.Device.failures) }
         ensures stays { (p : List ℕ) → file self.new p ≡ file self.old p };
+
+    /// Opens the file at a path, as `open` does. `Err` also where it isn't a regular file, as a pipe, which may never
+    /// end.
+    fn open_regular(&mut self, path: &str) -> Result<Self::Device, SourceFault>
+        ensures opens { IfSome (file self.old path.now) (λ held.
+            Opens Self.Device.left held result) }
+        ensures steady { IfSome (file self.old path.now) (λ _.
+            NeverHalts Self.Device.interruptions Self.Device.failures) }
+        ensures stays { (p : List ℕ) → file self.new p ≡ file self.old p };
 }

@@ -77,6 +77,11 @@ impl Source for StoredFiles {
         };
         Ok(Bytes::new(bytes.to_vec(self.alloc)?))
     }
+
+    /// Gives what `open` does: every file is regular.
+    fn open_regular(&mut self, path: &str) -> Result<Bytes, SourceFault> {
+        self.open(path)
+    }
 }
 
 /// The bytes of the first file with this path; None where there is none.

@@ -1,8 +1,7 @@
 -- Calls that fail.
 use Rattle.std.specs.Prelude.{Bool, true, Result, Ok, Err}
-use Rattle.bf_file.specs.declared.fault.ReplaceFault.{ReplaceFault}
 
 -- whether some call has failed, where this is whether one did before the last, and what the last came to
-abbrev pub failed_by : {A : Type 0} → Bool → Result A ReplaceFault → Bool
+abbrev pub failed_by : {A E : Type 0} → Bool → Result A E → Bool
 failed_by before (Ok a) = before
 failed_by before (Err fault) = true

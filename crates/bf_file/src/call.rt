@@ -12,7 +12,8 @@ pub enum Call {
     Renamed,
 }
 
-/// A path that a new file was put at, and all calls made on that file, with the rename last.
+/// A path that a new file was put at, or is left at under its own name, and all calls made on that file; of one that was
+/// put there the rename is the last.
 #[derive(Drop)]
 pub struct Placed {
     pub path: Text,

@@ -1,6 +1,7 @@
-//! Why no new file can take a path's place.
+//! Why no new file takes a path's place.
 ghost use Rattle.std.specs.Prelude.{◌≡◌};
 
+use bf_value::Text;
 use std::alloc::AllocError;
 use std::io;
 use std::io::ErrorKind;
@@ -8,9 +9,19 @@ use std::io::ErrorKind;
 /// Why no new file could be put at a path.
 #[derive(Clone, Copy, Debug, PartialEq, Eq)]
 pub enum ReplaceFault {
-    /// A folder or a device stands at the path, the folder of the path doesn't exist, or a call of the system failed.
+    /// A folder or a device stands at the path, the folder of the path doesn't exist, the file there can't be taken
+    /// away, or a call of the system failed.
     CannotReplace,
     OutOfMemory,
+}
+
+/// Why a new file that was written isn't at its path.
+#[derive(Debug, Drop)]
+pub enum PlaceFault {
+    /// It isn't on the disk as a whole, and was removed.
+    Lost(ReplaceFault),
+    /// It can't be renamed, and stays whole under this name.
+    Left(Text),
 }
 
 impl From<AllocError> for ReplaceFault {

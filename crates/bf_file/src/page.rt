@@ -1,10 +1,10 @@
 //! A device over a new file.
-ghost use Rattle.std.specs.Prelude.{◌≡◌, ◌≢◌, OnErr, OnOk, true};
+ghost use Rattle.std.specs.Prelude.{◌≡◌, ◌≢◌, IfErr, OnErr, OnOk, true};
 ghost use Rattle.bf_device.specs.Device.{HasHalted};
-ghost use Rattle.bf_file.specs.Pages.{HasReplacedBy, text_on};
+ghost use Rattle.bf_file.specs.Pages.{HasLeftBy, HasReplacedBy, text_on};
 ghost use Rattle.bf_file.specs.Replacing.{only_writes};
 
-use crate::fault::ReplaceFault;
+use crate::fault::{PlaceFault, ReplaceFault};
 use crate::folder::Folder;
 use crate::replacement::Replacement;
 use bf_device::{Halt, Write};
@@ -89,11 +89,15 @@ impl<N: Replacement + Drop> Write for Page<N> {
 }
 
 /// Syncs a page's new file and puts it at the path last given to `begin_replacement`. At an Err the path holds what it
-/// held; where the sync failed, the new file is removed.
-pub fn replace_by_page<F: Folder>(folder: &mut F, page: Page<F::New>) -> Result<(), ReplaceFault>
+/// held; where the sync failed, the new file is removed, and where only the rename did, it stays under the name that
+/// `Left` has, with all that was written to the page.
+pub fn replace_by_page<F: Folder>(folder: &mut F, page: Page<F::New>) -> Result<(), PlaceFault>
     ensures replaced { OnOk result (HasReplacedBy (F.placed folder.old) (F.placed folder.new)
         (F.begun folder.old) (text_on page)) }
     ensures same { OnErr result (F.placed folder.new ≡ F.placed folder.old) }
+    ensures kept { OnOk result (F.left folder.new ≡ F.left folder.old) }
+    ensures left { IfErr result (λ fault.
+        HasLeftBy (F.left folder.old) (F.left folder.new) fault (text_on page)) }
     ensures failed { OnErr result (F.failed folder.new ≡ true) }
 {
     let mut new = page.into_new();
@@ -101,7 +105,7 @@ pub fn replace_by_page<F: Folder>(folder: &mut F, page: Page<F::New>) -> Result<
         Ok(()) => folder.rename(new),
         Err(fault) => {
             folder.discard(new);
-            Err(fault)
+            Err(PlaceFault::Lost(fault))
         }
     }
 }
@@ -109,6 +113,7 @@ pub fn replace_by_page<F: Folder>(folder: &mut F, page: Page<F::New>) -> Result<
 /// Removes a page's new file, and gives the cause of the last failed write, `CannotReplace` where none failed.
 pub fn discard_page<F: Folder>(folder: &mut F, page: Page<F::New>) -> ReplaceFault
     ensures same { F.placed folder.new ≡ F.placed folder.old }
+    ensures left { F.left folder.new ≡ F.left folder.old }
     ensures failed { HasHalted 0 page.failures 0 0 → F.failed folder.new ≡ true }
 {
     let fault = page.fault;

@@ -1,27 +1,29 @@
 //! Files in memory that are replaced.
-ghost use Rattle.std.specs.Prelude.{◌≡◌, ◌++◌, ◌∷◌, [], None, false, IfOk, OnErr, OnOk, Some, length};
-ghost use Rattle.bf_file.specs.Replacing.{placed_with};
+ghost use Rattle.std.specs.Prelude.{◌≡◌, ◌++◌, ◌∷◌, [], None, false, IfErr, IfOk, OnErr, OnOk, Some, length};
+ghost use Rattle.bf_file.specs.Replacing.{left_at, placed_with};
 
 use crate::call::{Call, Placed};
-use crate::fault::ReplaceFault;
+use crate::fault::{PlaceFault, ReplaceFault};
 use crate::folder::Folder;
 use crate::replacement::Replacement;
 use bf_value::{Sequence, Text};
 use std::alloc::Global;
 
-/// A new file in memory. It keeps the calls on it that succeeded.
+/// A new file in memory, under a name of its own. It keeps the calls on it that succeeded.
 #[derive(Drop)]
 pub struct StoredNew {
     alloc: Global,
+    pub name: Text,
     pub calls: Sequence<Call>,
     pub failed: bool,
 }
 
 /// A folder in memory, which tells all that was done. It shows that the clauses of `Folder` can be kept. A call fails
-/// only at want of memory, or for a rename before any file was begun.
+/// only at want of memory, or for a rename where no file was begun since the last: that file stays under its own name.
 #[derive(Drop)]
 pub struct StoredFolder {
     pub placed: Sequence<Placed>,
+    pub left: Sequence<Placed>,
     pub begun: Option<Text>,
     pub failed: bool,
 }
@@ -29,10 +31,11 @@ pub struct StoredFolder {
 impl StoredFolder {
     /// Makes a folder in memory in which no file was replaced yet.
     pub fn new(alloc: Global) -> StoredFolder
-        ensures { result ≡ record { placed = []; begun = None; failed = false } }
+        ensures { result ≡ record { placed = []; left = []; begun = None; failed = false } }
     {
         StoredFolder {
             placed: Sequence::new(alloc),
+            left: Sequence::new(alloc),
             begun: None,
             failed: false,
         }
@@ -80,6 +83,39 @@ fn add_placed(
     }
 }
 
+/// Adds a path with the calls on its new file, as `add_placed` does. `Lost` at want of memory.
+fn put(placed: &mut Sequence<Placed>, path: Text, new: StoredNew) -> Result<(), PlaceFault>
+    ensures ok { OnOk result (Some placed.new
+        ≡ placed_with (Some placed.old) (Some path) (Some new.calls)) }
+    ensures err { OnErr result (placed.new ≡ placed.old) }
+    ensures lost { IfErr result (λ fault. fault ≡ PlaceFault.Lost ReplaceFault.OutOfMemory) }
+{
+    match add_placed(placed, path, new.calls) {
+        Ok(()) => Ok(()),
+        Err(_) => Err(PlaceFault::Lost(ReplaceFault::OutOfMemory)),
+    }
+}
+
+/// Adds a new file that stays under its name, with the calls on it, and gives why it isn't at its path: `Left`, or
+/// `Lost` at want of memory, where none is added.
+fn add_left(left: &mut Sequence<Placed>, new: StoredNew) -> PlaceFault
+    ensures { Some left.new ≡ left_at (Some left.old) (Some new.calls) result }
+{
+    let StoredNew {
+        alloc,
+        name,
+        calls,
+        failed: _,
+    } = new;
+    let Ok(path) = Text::copy_of(alloc, name.as_str()) else {
+        return PlaceFault::Lost(ReplaceFault::OutOfMemory);
+    };
+    match left.push(Placed { path, calls }) {
+        Ok(()) => PlaceFault::Left(name),
+        Err(_) => PlaceFault::Lost(ReplaceFault::OutOfMemory),
+    }
+}
+
 impl Replacement for StoredNew {
     ghost use Rattle.std.specs.Prelude.{Some};
 
@@ -109,30 +145,34 @@ impl Folder for StoredFolder {
 
     ghost placed = { λ f. Some f.placed };
 
+    ghost left = { λ f. Some f.left };
+
     ghost begun = { λ f. f.begun };
 
     ghost failed = { λ f. f.failed };
 
-    /// Remembers the path for `rename`, and gives a new file with no calls; `OutOfMemory` at want of memory.
+    /// Remembers the path for `rename`, and gives a new file with no calls, whose name is the path; `OutOfMemory` at
+    /// want of memory.
     fn begin_replacement(&mut self, alloc: Global, path: &str) -> Result<StoredNew, ReplaceFault> {
-        let Ok(path) = Text::copy_of(alloc, path) else {
+        let (Ok(name), Ok(path)) = (Text::copy_of(alloc, path), Text::copy_of(alloc, path)) else {
             self.failed = true;
             return Err(ReplaceFault::OutOfMemory);
         };
         self.begun = Some(path);
         Ok(StoredNew {
             alloc,
+            name,
             calls: Sequence::new(alloc),
             failed: false,
         })
     }
 
-    /// Adds the path last begun with the new file's calls. `CannotReplace` where none was begun since the last rename,
-    /// `OutOfMemory` at want of memory.
-    fn rename(&mut self, new: StoredNew) -> Result<(), ReplaceFault> {
+    /// Adds the path last begun with the new file's calls. `Left` where none was begun since the last rename, `Lost` at
+    /// want of memory.
+    fn rename(&mut self, new: StoredNew) -> Result<(), PlaceFault> {
         let renamed = match self.begun.take() {
-            Some(path) => add_placed(&mut self.placed, path, new.calls),
-            None => Err(ReplaceFault::CannotReplace),
+            Some(path) => put(&mut self.placed, path, new),
+            None => Err(add_left(&mut self.left, new)),
         };
         self.failed = self.failed || renamed.is_err();
         renamed

@@ -84,8 +84,7 @@ abbrev pub refusal_text : Refusal → List ℕ
 refusal_text (refusal.Read fault) = reading.fault_text fault ++ codes ": " ++ why_read fault
 refusal_text (refusal.Check fault) = checking.fault_text fault ++ codes ": " ++ why_check fault
 refusal_text (refusal.Pull fault pulled) =
-    checking.fault_text fault ++ (codes ": it pulls from " ++ (pulled
-    ++ codes ", which needn't have ended when this one is decided"))
+    checking.fault_text fault ++ (codes ": " ++ (why_check fault ++ (codes ": " ++ pulled)))
 
 -- the line, but for its end
 abbrev pub finding_text : Finding → List ℕ

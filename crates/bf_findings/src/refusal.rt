@@ -72,10 +72,9 @@ impl fmt::Display for Refusal {
         match self {
             Refusal::Read(fault) => write!(f, "{fault}: {}", words_of_read_fault(fault)),
             Refusal::Check(fault) => write!(f, "{fault}: {}", words_of_check_fault(fault)),
-            Refusal::Pull(fault, pulled) => write!(
-                f,
-                "{fault}: it pulls from {pulled}, which needn't have ended when this one is decided"
-            ),
+            Refusal::Pull(fault, pulled) => {
+                write!(f, "{fault}: {}: {pulled}", words_of_check_fault(fault))
+            }
         }
     }
 }

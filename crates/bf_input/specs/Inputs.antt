@@ -1,15 +1,17 @@
 -- What is read of the files that a line names.
-use Rattle.std.specs.Prelude.{◌≡◌, ℕ, List, ◌∷◌, [], ◌++◌, Ok, Option, Vec, option_map, string_bytes}
+use Rattle.std.specs.Prelude.{◌≡◌, ◌≢◌, ℕ, ◌+◌, List, ◌∷◌, [], ◌++◌, take, Ok, Option, Vec, option_map, string_bytes}
 use Rattle.std.specs.Global.{Global}
 use Rattle.jiff.specs.Types.{TimeZone}
 use Rattle.bf_disk.specs.Files.{Files, IsFirstUntold, IsHeld, IsHeldIfNamed, IsReadable, IsUntold, named_paths}
+use Rattle.bf_read.specs.Limits.{most_bytes}
 use Rattle.bf_read.specs.Reading.{GraphFile, graph_in}
 use Rattle.bf_zone.specs.Zones.{Asked, IsZone}
 use Rattle.bf_report_reader.specs.Faults.{Tells}
 use Rattle.bf_report_reader.specs.declared.fault.ReportFault.{ReportFault}
 use Rattle.bf_command_line.specs.declared.forms.GraphAsked.{GraphAsked}
 use Rattle.bf_command_fault.specs.declared.fault.CommandFault.{CommandFault}
-use Rattle.bf_command_fault.specs.declared.fault.CommandFault.TheVariants.{OutOfMemory, CannotRead, Report as BadReport}
+use Rattle.bf_command_fault.specs.declared.fault.CommandFault.TheVariants.{OutOfMemory, CannotRead, Journal, Report as BadReport}
+use Rattle.bf_journal.specs.declared.fault.JournalFault.{JournalFault}
 
 -- the graph file and, where one is named, the zone file are told to hold these bytes
 pub record AreHeld (files : Files) (asked : GraphAsked) (graph : List ℕ)
@@ -68,6 +70,10 @@ pub record AreAlike (graph other : List ℕ) (zone other_zone : Option (List ℕ
 abbrev pub IsWholeGraph : List ℕ → List ℕ → Type 0
 IsWholeGraph held bytes = (file : GraphFile) → graph_in held ≡ Ok file → bytes ≡ held
 
+-- the bytes that are read of a graph file: all of it, or one more than it may have
+abbrev pub IsReadGraph : List ℕ → List ℕ → Type 0
+IsReadGraph held bytes = bytes ≡ take (most_bytes + 1) held
+
 -- ---- why nothing is
 
 -- the first file of these that can't be read, or memory is wanting
@@ -75,6 +81,12 @@ abbrev pub IsReadingFault : Files → List (List ℕ) → CommandFault → Type 
 IsReadingFault files paths (CannotRead path) = IsFirstUntold files paths path
 IsReadingFault files paths OutOfMemory = Unit {0}
 IsReadingFault files paths _ = ⊥
+
+-- the file can't be read, or doesn't begin with these bytes, as a journal has to; or memory is wanting
+abbrev pub IsFrontFault : Files → List ℕ → List ℕ → CommandFault → Type 0
+IsFrontFault files path front (Journal JournalFault.Mismatch) = IsReadable (files path)
+    × ((held : List ℕ) → IsHeld (files path) held → (rest : List ℕ) → held ≢ front ++ rest)
+IsFrontFault files path front fault = IsReadingFault files (path ∷ []) fault
 
 -- the report's file can't be read, or it holds no report; or memory is wanting
 abbrev pub IsReportFault : List ℕ → Option (Option (List ℕ)) → CommandFault → Type 0

@@ -1,3 +1,4 @@
 pub mod Inputs
 pub mod Moments
+pub mod Overwriting
 pub mod inner

@@ -5,13 +5,14 @@ ghost use Rattle.bf_table.specs.Tables.{table_in};
 ghost use Rattle.bf_report_reader.specs.Reading.{IsReadAs};
 ghost use Rattle.bf_report_reader.specs.Rules.{IsShownReport};
 ghost use Rattle.bf_disk.specs.Files.{AreReadable, IsHeld, IsReadable, IsHeldIfNamed, named_paths};
-ghost use Rattle.bf_input.specs.Inputs.{OfFiles, OfFilesAndTable, graph_paths, table_paths, AreAlike, IsReadingFault, IsReportFault, IsWholeGraph, MeanAlike, bytes_of};
+ghost use Rattle.bf_input.specs.Inputs.{OfFiles, OfFilesAndTable, graph_paths, table_paths, AreAlike, IsFrontFault, IsReadGraph, IsReadingFault, IsReportFault, IsWholeGraph, MeanAlike, bytes_of};
 ghost use Rattle.bf_input.specs.inner.Inputs.{of_source};
 ghost use Rattle.bf_disk.specs.Source.{IsWholeUpTo};
 
 use bf_command_fault::CommandFault;
 use bf_command_line::GraphAsked;
-use bf_disk::{Source, SourceFault, read_first_bytes};
+use bf_disk::{Source, SourceFault, read_behind, read_first_bytes};
+use bf_journal::JournalFault;
 use bf_read::MOST_BYTES;
 use bf_report::Report;
 use bf_report_reader::{ReportFault, read_report};
@@ -65,6 +66,9 @@ fn read_graph_bytes<S: Source>(
     ensures whole { IfOk result (λ bytes. (held : List ℕ)
         → IsHeld (S.file files.old (string_bytes path)) held
         → IsWholeGraph held bytes.items) }
+    ensures read { IfOk result (λ bytes. (held : List ℕ)
+        → IsHeld (S.file files.old (string_bytes path)) held
+        → IsReadGraph held bytes.items) }
     ensures readable { OnOk result (IsReadable (S.file files.old (string_bytes path))) }
     ensures fault { IfErr result (IsReadingFault (S.file files.old) (string_bytes path ∷ [])) }
     ensures stays { (p : List ℕ) → S.file files.new p ≡ S.file files.old p }
@@ -155,43 +159,25 @@ pub fn read_seeds_bytes<S: Source>(
     read_bytes_up_to(alloc, path, LONGEST_FILE, files)
 }
 
-/// Reads a file to its end, however long it is. `Err` where it can't be read, or at want of memory.
-fn read_whole_file<S: Source>(
+/// Reads a journal to its end, which is a regular file that begins with `front`. `Err(Journal(Mismatch))` where it begins
+/// otherwise, for which no more is read than `front` has; `Err` also where it can't be read, or at want of memory.
+pub fn read_journal_bytes<S: Source>(
     alloc: Global,
     path: String,
+    front: &[u8],
     files: &mut S,
 ) -> Result<Vec<u8>, CommandFault>
     ensures whole { IfOk result (λ bytes. (held : List ℕ)
         → IsHeld (S.file files.old (string_bytes path)) held
         → bytes.items ≡ held) }
     ensures readable { OnOk result (IsReadable (S.file files.old (string_bytes path))) }
-    ensures fault { IfErr result (IsReadingFault (S.file files.old) (string_bytes path ∷ [])) }
+    ensures fault { IfErr result (IsFrontFault (S.file files.old) (string_bytes path) front.now) }
     ensures stays { (p : List ℕ) → S.file files.new p ≡ S.file files.old p }
 {
-    read_bytes_up_to(alloc, path, isize::MAX as usize, files)
-}
-
-/// Reads a journal to its end; None where none is named. `Err` where it can't be read, or at want of memory.
-pub fn read_named_journal<S: Source>(
-    alloc: Global,
-    path: Option<String>,
-    files: &mut S,
-) -> Result<Option<Vec<u8>>, CommandFault>
-    ensures whole { IfOk result (λ bytes. (held : Option (List ℕ))
-        → IsHeldIfNamed (S.file files.old) (option_map string_bytes path) held
-        → bytes_of bytes ≡ held) }
-    ensures readable { OnOk result
-        (AreReadable (S.file files.old) (named_paths (option_map string_bytes path))) }
-    ensures fault { IfErr result (IsReadingFault (S.file files.old)
-        (named_paths (option_map string_bytes path))) }
-    ensures stays { (p : List ℕ) → S.file files.new p ≡ S.file files.old p }
-{
-    match path {
-        Some(path) => {
-            let bytes = read_whole_file(alloc, path, files)?;
-            Ok(Some(bytes))
-        }
-        None => Ok(None),
+    match read_behind(alloc, path.as_str(), front, files) {
+        Ok(Some(bytes)) => Ok(bytes),
+        Ok(None) => Err(CommandFault::Journal(JournalFault::Mismatch)),
+        Err(fault) => Err(reading_fault(path, fault)),
     }
 }
 
@@ -249,6 +235,8 @@ pub fn read_graph_files<S: Source>(
         (λ graph zone. AreAlike f.graph.items graph (bytes_of f.zone_file) zone)) }
     ensures whole { IfOk result (λ f. OfFiles (S.file files.old) asked
         (λ graph zone. IsWholeGraph graph f.graph.items)) }
+    ensures read { IfOk result (λ f. OfFiles (S.file files.old) asked
+        (λ graph zone. IsReadGraph graph f.graph.items)) }
     ensures readable { OnOk result (AreReadable (S.file files.old) (graph_paths asked)) }
     ensures fault { IfErr result (IsReadingFault (S.file files.old) (graph_paths asked)) }
     ensures stays { (p : List ℕ) → S.file files.new p ≡ S.file files.old p }

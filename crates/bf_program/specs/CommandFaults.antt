@@ -2,12 +2,14 @@
 use Rattle.std.specs.Prelude.{◌≡◌, ◌≤◌, ◌⊎◌, ℕ, List, length, take, Option, Some, None, string_bytes}
 use Rattle.clap.specs.Words.{Row, Text}
 use Rattle.bf_device.specs.Device.{sent}
+use Rattle.bf_file.specs.declared.call.Placed.{Placed}
+use Rattle.bf_file.specs.Replacing.{HasLeft}
 use Rattle.bf_command_line.specs.declared.forms.Asked.{Asked}
 use Rattle.bf_command_line.specs.declared.forms.Asked.TheVariants.{Answers, Check, Clear, ClearPlan, Completions, Dry, Explain, Keep, List as Intervals, Page, Run, Schema, Show, ShowJson, Single}
 use Rattle.bf_command_line.specs.declared.forms.CommandLine.{CommandLine}
 use Rattle.bf_command_line.specs.Asked.{IsLineBy}
 use Rattle.bf_command_fault.specs.declared.fault.CommandFault.{CommandFault}
-use Rattle.bf_command_fault.specs.declared.fault.CommandFault.TheVariants.{OutOfMemory, CannotWriteFile, CannotWrite}
+use Rattle.bf_command_fault.specs.declared.fault.CommandFault.TheVariants.{OutOfMemory, CannotWriteFile, CannotWrite, ReportLeft}
 use Rattle.bf_command_fault.specs.declared.status.Status.{Status}
 use Rattle.bf_command_fault.specs.Refusal.{Leaves, line_of, status_of}
 use Rattle.bf_command_fault.specs.Status.{code_of}
@@ -21,7 +23,9 @@ use Rattle.bf_program.specs.Texts.{IsDeviceFault}
 use Rattle.bf_disk.specs.Files.{Files}
 use Rattle.bf_backfills.specs.Commands.{Machine}
 use Rattle.bf_backfills.specs.CommandFaults.{IsCheckFault, IsClearFault, IsClearPlanFault, IsDryFault, IsListFault, IsRunFault, IsSingleFault}
-use Rattle.bf_program.specs.Commands.{IsAnswer, Outputs, out_of}
+use Rattle.bf_input.specs.Overwriting.{Leads, MayLead}
+use Rattle.bf_command_line.specs.Naming.{logs_of}
+use Rattle.bf_program.specs.Commands.{IsAnswer, Outputs, SparesBy, out_of}
 
 -- ---- why there is no answer
 
@@ -44,43 +48,58 @@ IsFault may_lose files machine (Schema format) fault = IsDeviceFault fault
 IsFault may_lose files machine (Completions shell) fault = IsDeviceFault fault
 
 -- the fault is the command's own where its report goes to standard output; and where it goes to a file, its device isn't told of, but that the path's file
--- can't be replaced, and then a call of the folder or of the new file has failed; or so it is with the journal's
-abbrev pub IsFaultBy : Option (List ℕ) → Type 0 → Losing → Files → Machine → Asked → CommandFault
-    → Type 0
-IsFaultBy None HasFailed may_lose files machine asked fault =
+-- can't be replaced, by a report that is lost or left, and then a call of the folder or of the new file has failed, or its folder of logs may be there;
+-- or so it is with the journal's
+abbrev pub IsFaultBy : Leads → Option (List ℕ) → Type 0 → Losing → Files → Machine → Asked
+    → CommandFault → Type 0
+IsFaultBy leads None HasFailed may_lose files machine asked fault =
     IsFault may_lose files machine asked fault
-IsFaultBy (Some path) HasFailed may_lose files machine asked (CannotWriteFile p) =
-    ((p ≡ path) × HasFailed) ⊎ IsFault may_lose files machine asked (CannotWriteFile p)
-IsFaultBy (Some path) HasFailed may_lose files machine asked (CannotWrite n) = ⊥
-IsFaultBy (Some path) HasFailed may_lose files machine asked OutOfMemory = Unit {0}
-IsFaultBy (Some path) HasFailed may_lose files machine asked fault =
+IsFaultBy leads (Some path) HasFailed may_lose files machine asked (CannotWriteFile p) =
+    ((p ≡ path) × (HasFailed ⊎ MayLead leads.same (logs_of asked) path))
+    ⊎ IsFault may_lose files machine asked (CannotWriteFile p)
+IsFaultBy leads (Some path) HasFailed may_lose files machine asked (ReportLeft p name) =
+    (p ≡ path) × HasFailed
+IsFaultBy leads (Some path) HasFailed may_lose files machine asked (CannotWrite n) = ⊥
+IsFaultBy leads (Some path) HasFailed may_lose files machine asked OutOfMemory = Unit {0}
+IsFaultBy leads (Some path) HasFailed may_lose files machine asked fault =
     IsFault may_lose files machine asked fault
 
--- what a fault leaves of the text that was due; of a file nothing, so that its path holds what it held
+-- all of the text that was due stands in the file that the fault names as left, and no other file is left
+abbrev pub LeavesFiled : (List ℕ → Type 0) → Option (List Placed) → Option (List Placed)
+    → CommandFault → Type 0
+LeavesFiled IsDue before after (ReportLeft path name) =
+    (text : List ℕ) × IsDue text × HasLeft before after name text
+LeavesFiled IsDue before after fault = after ≡ before
+
+-- what a fault leaves of the text that was due; at the path of a file nothing, so that it holds what it held
 abbrev pub LeavesBy : Option (List ℕ) → Type 0 → (List ℕ → Type 0) → Outputs → Outputs
     → CommandFault → Type 0
 LeavesBy None Halted IsDue before after fault =
     Leaves Halted IsDue before.written after.written fault × (after.placed ≡ before.placed)
-LeavesBy (Some path) Halted IsDue before after fault = after ≡ before
+    × (after.left ≡ before.left)
+LeavesBy (Some path) Halted IsDue before after fault = (after.written ≡ before.written)
+    × (after.placed ≡ before.placed) × LeavesFiled IsDue before.left after.left fault
 
 -- the fault is one of the line that was found, and this is what it leaves
 pub record IsFaulted (may_hear : Hearing) (may_lose : Losing) (canvas : Canvas) (files : Files)
-    (machine : Machine)
+    (machine : Machine) (leads : Leads)
     (matched : Option (Text × List Row)) (Halted HasFailed : Type 0) (before after : Outputs)
     (fault : CommandFault) : Type 0 where
   pub line : CommandLine
   pub asks : IsLineBy matched line
-  pub is_fault : IsFaultBy (out_of line) HasFailed may_lose files machine line.command fault
+  pub spares : SparesBy leads (out_of line) line.command
+  pub is_fault : IsFaultBy leads (out_of line) HasFailed may_lose files machine line.command fault
   pub left : LeavesBy (out_of line) Halted (λ text. (status : Status)
       × IsAnswer may_hear canvas files machine line.command text status) before after fault
 
 -- the fault is one of the line that was found, or memory was wanting before anything was written
-abbrev pub MayBeFaulted : Hearing → Losing → Canvas → Files → Machine → Option (Text × List Row)
-    → Type 0 → Type 0 → Outputs → Outputs → CommandFault → Type 0
-MayBeFaulted may_hear may_lose canvas files machine matched Halted HasFailed before after
+abbrev pub MayBeFaulted : Hearing → Losing → Canvas → Files → Machine → Leads
+    → Option (Text × List Row) → Type 0 → Type 0 → Outputs → Outputs → CommandFault → Type 0
+MayBeFaulted may_hear may_lose canvas files machine leads matched Halted HasFailed before after
     OutOfMemory = after ≡ before
-MayBeFaulted may_hear may_lose canvas files machine matched Halted HasFailed before after fault =
-    IsFaulted may_hear may_lose canvas files machine matched Halted HasFailed before after fault
+MayBeFaulted may_hear may_lose canvas files machine leads matched Halted HasFailed before after
+    fault = IsFaulted may_hear may_lose canvas files machine leads matched Halted HasFailed
+    before after fault
 
 -- ---- what is told on standard error
 

@@ -23,6 +23,8 @@ use Rattle.bf_views.specs.Explanations.{IsExplainAnswer}
 use Rattle.bf_backfills.specs.Commands.{IsCheckAnswer, IsClearAnswer, IsClearPlanAnswer, IsDryAnswer, IsListAnswer, IsRunAnswer, IsSingleAnswer, Machine}
 use Rattle.bf_program.specs.Texts.{IsPrinted, completions_text, schema_text}
 use Rattle.bf_disk.specs.Files.{Files}
+use Rattle.bf_input.specs.Overwriting.{IsOverwriting, IsSparing, Leads, MayMiss}
+use Rattle.bf_command_line.specs.Naming.{logs_of}
 
 -- ---- the words of a line
 
@@ -68,13 +70,14 @@ IsAnswer may_hear canvas files machine (Schema format) text status =
 IsAnswer may_hear canvas files machine (Completions shell) text status =
     IsPrinted (completions_text shell) text status
 
--- what went out, and which files were replaced, where that is told
+-- what went out, which files were replaced, and which new files stay beside those that they were to replace, where that is told
 pub record Outputs : Type 0 where
   pub written : Option (List ℕ)
   pub placed : Option (List Placed)
+  pub left : Option (List Placed)
 
-abbrev pub outputs : Option (List ℕ) → Option (List Placed) → Outputs
-outputs written placed = record { written = written; placed = placed }
+abbrev pub outputs : Option (List ℕ) → Option (List Placed) → Option (List Placed) → Outputs
+outputs written placed left = record { written = written; placed = placed; left = left }
 
 -- the path that a report goes to, where one is named
 abbrev pub out_of : CommandLine → Option (List ℕ)
@@ -83,18 +86,38 @@ out_of line = option_map string_bytes line.out
 -- this text is all that went out, behind what had gone out before; or where a path is named, nothing did, and the path's file was
 -- replaced by one of the text
 abbrev pub HasGone : Option (List ℕ) → List ℕ → Outputs → Outputs → Type 0
-HasGone None text before after =
-    (after.written ≡ sent before.written text) × (after.placed ≡ before.placed)
-HasGone (Some path) text before after =
-    (after.written ≡ before.written) × HasReplaced before.placed after.placed path text
+HasGone None text before after = (after.written ≡ sent before.written text)
+    × (after.placed ≡ before.placed) × (after.left ≡ before.left)
+HasGone (Some path) text before after = (after.written ≡ before.written)
+    × HasReplaced before.placed after.placed path text × (after.left ≡ before.left)
+
+-- the path that a report goes to, where one is named, leads to no file that the command names
+abbrev pub SparesBy : Leads → Option (List ℕ) → Asked → Type 0
+SparesBy leads None asked = Unit {0}
+SparesBy leads (Some path) asked = IsSparing leads asked path
+
+-- nor to its folder of logs
+abbrev pub IsApartBy : Leads → Option (List ℕ) → Asked → Type 0
+IsApartBy leads None asked = Unit {0}
+IsApartBy leads (Some path) asked = MayMiss leads.same (logs_of asked) path
+
+-- the line that was found names a path for its report that leads to a file which its command names
+pub record IsRefusedOut (leads : Leads) (matched : Option (Text × List Row)) : Type 0 where
+  pub line : CommandLine
+  pub asks : IsLineBy matched line
+  pub path : List ℕ
+  pub out_is : out_of line ≡ Some path
+  pub overwrites : IsOverwriting leads line.command path
 
 -- the line that was found was answered so, and that is the exit status
 pub record IsDone (may_hear : Hearing) (canvas : Canvas) (files : Files) (machine : Machine)
-    (matched : Option (Text × List Row)) (before after : Outputs) (code : ℕ) : Type 0 where
+    (leads : Leads) (matched : Option (Text × List Row)) (before after : Outputs) (code : ℕ) : Type 0 where
   pub line : CommandLine
   pub asks : IsLineBy matched line
   pub text : List ℕ
   pub status : Status
   pub answer : IsAnswer may_hear canvas files machine line.command text status
+  pub spares : SparesBy leads (out_of line) line.command
+  pub apart : IsApartBy leads (out_of line) line.command
   pub gone : HasGone (out_of line) text before after
   pub code_is : code ≡ code_of status

@@ -7,7 +7,8 @@ ghost use Rattle.bf_command_fault.specs.Status.{code_of};
 ghost use Rattle.bf_command_fault.specs.declared.fault.CommandFault.{CommandFault};
 ghost use Rattle.bf_command_fault.specs.declared.status.Status.{Status};
 ghost use Rattle.bf_backfills.specs.Commands.{machine_of};
-ghost use Rattle.bf_program.specs.Commands.{IsAnswer, IsDone, found_in, outputs, wrongs_of};
+ghost use Rattle.bf_input.specs.Overwriting.{leads_of};
+ghost use Rattle.bf_program.specs.Commands.{IsAnswer, IsDone, IsRefusedOut, found_in, outputs, wrongs_of};
 ghost use Rattle.bf_program.specs.CommandFaults.{IsFault, IsTold, MayBeFaulted, MayTell, Tells};
 ghost use Rattle.bf_program.specs.Shown.{shown_as, EndsAs, IsUnshown, ShowsHelp};
 
@@ -18,11 +19,12 @@ use bf_backfills::{
     answer_single,
 };
 use bf_command_fault::{CommandFault, Status};
-use bf_command_line::{Asked, CommandLine, asked};
+use bf_command_line::{Asked, CommandLine, asked, overwriting_error_of};
 use bf_commands::Screen;
 use bf_device::{Write, send};
-use bf_disk::{Journals, Launchers, Source};
+use bf_disk::{Journals, Launchers, Places, Source};
 use bf_file::Folder;
+use bf_input::is_overwriting;
 use bf_process::Starter;
 use bf_quoted::push_shown_lines;
 use bf_views::{
@@ -38,9 +40,10 @@ use std::time::Clock;
 /// Answers a command line, whose first word is the program's own name: writes its text to `out`, or with `--out` to a
 /// file in `folder`, and why there is none to `err`. `canvas` has the width and colours of a grid where the line
 /// doesn't. Gives the exit status: 0 where all is done and every run succeeded, 1 where a run failed, 2 for a refusal,
-/// and 3 where the machine failed or a backfill stopped early.
+/// and 3 where the machine failed or a backfill stopped early. A line whose file in `folder` is one that it reads or starts
+/// is wrong.
 #[tactic(auto, using(crate::proofs::Ends::fault_ends))]
-pub fn answer<RT, J: Journals + Launchers, S: Source, F: Folder, W: Write, E: Write>(
+pub fn answer<RT, J: Journals + Launchers + Places, S: Source, F: Folder, W: Write, E: Write>(
     rt: &RT,
     alloc: Global,
     words: &[String],
@@ -60,22 +63,33 @@ where
     ensures line { wrongs_of words.now ≢ [] → EndsAs (wrongs_of words.now) result }
     ensures done { wrongs_of words.now ≡ [] → result ≤ 1
         → IsDone (RT.may_hear rt.now) canvas (S.file files.old)
-        (machine_of (J.journal journals.now) (J.startable journals.now)) (found_in words.now)
-        (outputs (W.written out.old) (F.placed folder.old))
-        (outputs (W.written out.new) (F.placed folder.new)) result }
+        (machine_of (J.journal journals.now) (J.startable journals.now))
+        (leads_of (J.same journals.now) (J.started journals.now)) (found_in words.now)
+        (outputs (W.written out.old) (F.placed folder.old)
+        (F.left folder.old))
+        (outputs (W.written out.new) (F.placed folder.new)
+        (F.left folder.new)) result }
     ensures kept { wrongs_of words.now ≢ [] → F.placed folder.new ≡ F.placed folder.old }
+    ensures unleft { wrongs_of words.now ≢ [] → F.left folder.new ≡ F.left folder.old }
 
-    // Of a line with which nothing is wrong: which fault came, and what is told of it.
-    ensures why { wrongs_of words.now ≡ [] → 2 ≤ result → (fault : CommandFault)
+    // Of a line with which nothing is wrong: its report would be written over what it names; or which fault came, and
+    // what is told of it.
+    ensures why { wrongs_of words.now ≡ [] → 2 ≤ result → ((result ≡ 2)
+        × IsRefusedOut (leads_of (J.same journals.now) (J.started journals.now))
+        (found_in words.now) × (outputs (W.written out.new) (F.placed folder.new)
+        (F.left folder.new) ≡ outputs (W.written out.old) (F.placed folder.old)
+        (F.left folder.old))) ⊎ ((fault : CommandFault)
         × MayBeFaulted (RT.may_hear rt.now) (RT.may_lose rt.now) canvas
         (S.file files.old) (machine_of (J.journal journals.now) (J.startable journals.now))
-        (found_in words.now) (HasHalted (W.failures out.old) (W.failures out.new)
+        (leads_of (J.same journals.now) (J.started journals.now)) (found_in words.now) (HasHalted (W.failures out.old) (W.failures out.new)
         (W.interruptions out.old) (W.interruptions out.new)) (F.failed folder.new ≡ true)
-        (outputs (W.written out.old) (F.placed folder.old))
-        (outputs (W.written out.new) (F.placed folder.new)) fault
+        (outputs (W.written out.old) (F.placed folder.old)
+        (F.left folder.old))
+        (outputs (W.written out.new) (F.placed folder.new)
+        (F.left folder.new)) fault
         × MayTell (HasHalted (E.failures err.old) (E.failures err.new)
         (E.interruptions err.old) (E.interruptions err.new))
-        (E.written err.old) (E.written err.new) fault result }
+        (E.written err.old) (E.written err.new) fault result) }
 
     // Of a wrong line, and of help: which fault came, and what is told of it.
     ensures unshown { wrongs_of words.now ≢ [] → result ≡ 3 → (fault : CommandFault)
@@ -102,7 +116,7 @@ where
 /// Does what a command line asks, whose first word is the program's own name; writes `clap`'s help to `out`, and what
 /// is wrong with the line to `err`. `Err` where the command is refused or fails, or the help can't be written; `err` is
 /// left as it was then, so that the caller can tell the fault.
-fn answer_line<RT, J: Journals + Launchers, S: Source, F: Folder, W: Write, E: Write>(
+fn answer_line<RT, J: Journals + Launchers + Places, S: Source, F: Folder, W: Write, E: Write>(
     rt: &RT,
     alloc: Global,
     words: &[String],
@@ -130,23 +144,39 @@ where
         (ShowsHelp (wrongs_of words.now)) (HasHalted (W.failures out.old) (W.failures out.new)
         (W.interruptions out.old) (W.interruptions out.new))
         (W.written out.old) (W.written out.new)) }
-    ensures done { wrongs_of words.now ≡ [] → IfOk result (λ s.
+    ensures done { wrongs_of words.now ≡ [] → IfOk result (λ s. s ≢ Status.Refused →
         IsDone (RT.may_hear rt.now) canvas (S.file files.old)
-        (machine_of (J.journal journals.now) (J.startable journals.now)) (found_in words.now)
-        (outputs (W.written out.old) (F.placed folder.old))
-        (outputs (W.written out.new) (F.placed folder.new)) (code_of s)) }
+        (machine_of (J.journal journals.now) (J.startable journals.now))
+        (leads_of (J.same journals.now) (J.started journals.now)) (found_in words.now)
+        (outputs (W.written out.old) (F.placed folder.old)
+        (F.left folder.old))
+        (outputs (W.written out.new) (F.placed folder.new)
+        (F.left folder.new)) (code_of s)) }
     ensures kept { wrongs_of words.now ≢ [] → F.placed folder.new ≡ F.placed folder.old }
+    ensures unleft { wrongs_of words.now ≢ [] → F.left folder.new ≡ F.left folder.old }
+    ensures overwriting { wrongs_of words.now ≡ [] → IfOk result (λ s. s ≡ Status.Refused →
+        IsRefusedOut (leads_of (J.same journals.now) (J.started journals.now)) (found_in words.now)
+        × (outputs (W.written out.new) (F.placed folder.new) (F.left folder.new)
+        ≡ outputs (W.written out.old) (F.placed folder.old) (F.left folder.old))) }
     ensures why { wrongs_of words.now ≡ [] → IfErr result (λ f. MayBeFaulted
         (RT.may_hear rt.now) (RT.may_lose rt.now) canvas (S.file files.old)
-        (machine_of (J.journal journals.now) (J.startable journals.now)) (found_in words.now)
+        (machine_of (J.journal journals.now) (J.startable journals.now))
+        (leads_of (J.same journals.now) (J.started journals.now)) (found_in words.now)
         (HasHalted (W.failures out.old) (W.failures out.new)
         (W.interruptions out.old) (W.interruptions out.new)) (F.failed folder.new ≡ true)
-        (outputs (W.written out.old) (F.placed folder.old))
-        (outputs (W.written out.new) (F.placed folder.new)) f) }
+        (outputs (W.written out.old) (F.placed folder.old)
+        (F.left folder.old))
+        (outputs (W.written out.new) (F.placed folder.new)
+        (F.left folder.new)) f) }
 {
     match asked(alloc, words) {
         Ok(CommandLine { command, out: file }) => match file {
-            Some(path) => answer_to_file(rt, alloc, command, path, canvas, files, journals, folder),
+            Some(path) => {
+                if is_overwriting(journals, &command, path.as_str()) {
+                    return refuse_overwriting(alloc, command, out, err);
+                }
+                answer_to_file(rt, alloc, command, path, canvas, files, journals, folder)
+            }
             None => answer_command(rt, alloc, command, canvas, files, journals, out),
         },
         Err(error) => show_clap_error(alloc, &error, out, err),
@@ -238,9 +268,26 @@ fn show_clap_error<W: Write, E: Write>(
     Ok(Status::Success)
 }
 
+/// Writes to `err` that a line's report would be written over what its command names. `Err` at want of memory; nothing is
+/// written then.
+fn refuse_overwriting<W: Write, E: Write>(
+    alloc: Global,
+    command: Asked,
+    out: &mut W,
+    err: &mut E,
+) -> Result<Status, CommandFault>
+    ensures ok { IfOk result (λ s. s ≡ Status.Refused) }
+    ensures memory { IfErr result (λ f. f ≡ CommandFault.OutOfMemory) }
+    ensures unwritten { W.written out.new ≡ W.written out.old }
+    ensures untouched { OnErr result (err.new ≡ err.old) }
+{
+    let error = overwriting_error_of(alloc, &command)?;
+    show_clap_error(alloc, &error, out, err)
+}
+
 /// Writes the line of a fault to `err`, and gives its exit status. Without memory for that line, says
 /// `fault: out of memory` and gives `Fault`.
-fn tell_fault<E: Write>(alloc: Global, fault: &CommandFault, err: &mut E) -> Status
+pub(crate) fn tell_fault<E: Write>(alloc: Global, fault: &CommandFault, err: &mut E) -> Status
     ensures tells { MayTell (HasHalted (E.failures err.old) (E.failures err.new)
         (E.interruptions err.old) (E.interruptions err.new))
         (E.written err.old) (E.written err.new) fault.now (code_of result) }

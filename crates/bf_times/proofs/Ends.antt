@@ -1,6 +1,7 @@
 -- What reading the times of a journal comes to.
-use Rattle.std.proofs.Common.{◌≡◌, ◌≤◌, ◌<◌, ◌+◌, ◌-◌, ◌==◌, ◌∙◌, ℕ, nat_lt, List, ◌++◌, length, take, drop, max, position, Option, Some, None, Result, Ok, Err, IfErr, IsErrAnd, option_map, sym, ap, subst, inl, inr, arith}
-use Rattle.std.proofs.lemmas.Bool.{cases_Bool}
+use Rattle.std.proofs.Common.{◌≡◌, ◌≤◌, ◌<◌, ◌+◌, ◌-◌, ◌==◌, ◌∙◌, ℕ, nat_lt, List, [], ◌++◌, append_assoc, length, take, drop, max, position, Option, Some, None, Result, Ok, Err, IfErr, IsErrAnd, option_map, sym, ap, subst, inl, inr, arith}
+use Rattle.std.proofs.lemmas.Bool.{and_parts, cases_Bool}
+use Rattle.std.proofs.lemmas.Slice.Eq.{bytes_eq-Decides}
 use Rattle.std.proofs.lemmas.Bool.Decides.{nat_tests}
 use Rattle.std.proofs.lemmas.List.{take-append-drop}
 use Rattle.bf_plan.specs.declared.plan.Dag.{Dag}
@@ -11,7 +12,8 @@ use Rattle.bf_journal.specs.declared.fault.JournalFault.{JournalFault}
 use Rattle.bf_journal.specs.declared.fault.JournalFault.TheVariants.{BadRecord, Mismatch, OutOfMemory}
 use Rattle.bf_journal.specs.Found.{IsCutHead, IsFault, IsGoneOnWith}
 use Rattle.bf_journal.specs.Left.{IsFoundIn}
-use Rattle.bf_times.specs.Times.{HasHead, IsTimesFault}
+use Rattle.bf_journal.specs.Heads.{head_text}
+use Rattle.bf_times.specs.Times.{HasHead, IsTimesFault, front_in}
 
 -- the bytes begin with their first line
 begins : (bytes head : List ℕ) (at : Option ℕ) → option_map (λ n. take (n + 1) bytes) at ≡ Some head → (rest : List ℕ) × (bytes ≡ head ++ rest)
@@ -19,6 +21,17 @@ begins bytes head None is = absurd (cc is)
 begins bytes head (Some n) is = (drop (n + 1) bytes, sym (take-append-drop (n + 1) bytes) ∙ ap (λ front. front ++ drop (n + 1) bytes) (some_same is))
 
 module _ (dag : Dag) (intervals : List Interval) (bytes head : List ℕ) where
+  -- what begins with such a head begins as each does
+  pub front_first : HasHead dag intervals bytes head → (rest : List ℕ) × (bytes ≡ front_in (head_text dag intervals []) ++ rest)
+  front_first has =
+      let (rest, are) = begins bytes head (position (λ b. b == 10) bytes) has.is_first in
+      let front = length (head_text dag intervals []) - 2 in
+      let like = and_parts _ _ (and_parts _ _ has.is_own).1 in
+      let same : take front head ≡ take front (head_text dag intervals []) = (bytes_eq-Decides _ _).0 like.0 in (
+        drop front head ++ rest,
+        are ∙ ap (λ h. h ++ rest) (sym (take-append-drop front head) ∙ ap (λ f. f ++ drop front head) same) ∙ append_assoc _ (drop front head) rest,
+      )
+
   fault_of : HasHead dag intervals bytes head → (fault : JournalFault) → IsFault dag intervals head bytes fault → IsTimesFault dag intervals bytes fault
   fault_of has (BadRecord number) is = (head, has, is)
   fault_of has Mismatch is = let (rest, are) = begins bytes head (position (λ b. b == 10) bytes) has.is_first in absurd (is.not_gone_on rest are)

@@ -78,6 +78,10 @@ is_like_up_to front head line =
 abbrev pub is_head_like : List ℕ → List ℕ → Bool
 is_head_like head line = is_like_up_to (length head - 2) head line
 
+-- up to that bracket
+abbrev pub front_in : List ℕ → List ℕ
+front_in head = take (length head - 2) head
+
 -- the bytes begin with the head of a journal of the graph and the runs
 pub record HasHead (dag : Dag) (intervals : List Interval) (bytes head : List ℕ) : Type 0 where
   pub is_first : first_line_of bytes ≡ Some head

@@ -1,7 +1,7 @@
 //! The head of a journal that a backfill of a graph and of these runs began, whatever it cleared.
 ghost use Rattle.std.specs.Prelude.{◌≡◌, ◌==◌, [], IfOk, option_map, position};
 ghost use Rattle.bf_journal.specs.Heads.{head_text};
-ghost use Rattle.bf_times.specs.Times.{first_line_of, is_head_like};
+ghost use Rattle.bf_times.specs.Times.{first_line_of, front_in, is_head_like};
 
 use bf_interval::Runs;
 use bf_journal::head_of;
@@ -34,6 +34,16 @@ fn is_line_like(line: &[u8], head: &[u8]) -> bool
     let front = head.len().saturating_sub(2);
     line.len() > front
         && (line[..front] == head[..front] && (line[front] == b']' || line[front] == b','))
+}
+
+/// The bytes with which each journal of this plan and these runs begins, whatever its head says is cleared.
+pub fn front_of(alloc: Global, plan: &Plan, runs: &Runs) -> Result<Vec<u8>, OutOfMemory>
+    ensures { IfOk result (λ front. front.items
+        ≡ front_in (head_text plan.now.dag runs.now [])) }
+{
+    let head = head_of(alloc, plan, runs, &[])?;
+    let front = head.len().saturating_sub(2);
+    Ok(head.as_bytes()[..front].to_vec(alloc)?)
 }
 
 /// Whether a line is the head of a journal of this plan and these runs, whatever it says is cleared.

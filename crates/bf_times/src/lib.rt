@@ -13,4 +13,5 @@ mod head;
 mod lines;
 mod times;
 
+pub use head::front_of;
 pub use times::times_of;

@@ -3,6 +3,7 @@ mod Alike
 mod ReportedEnds
 mod RunFacts
 mod PageEnds
+mod TimesRead
 mod GridEnds
 mod ExplainEnds
 mod ExplainFacts

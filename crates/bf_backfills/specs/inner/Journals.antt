@@ -9,6 +9,8 @@ use Rattle.bf_xcom.specs.declared.values.Given.{Given}
 use Rattle.bf_try.specs.declared.answers.Raw.{Raw}
 use Rattle.bf_try.specs.Tries.{Ledger}
 use Rattle.bf_kept.specs.Kept.{nothing}
+use Rattle.bf_journal.specs.Found.{IsOfAnother}
+use Rattle.bf_journal.specs.declared.fault.JournalFault.{JournalFault}
 use Rattle.bf_table.specs.declared.table.TableEntry.{TableEntry}
 use Rattle.bf_commands.specs.declared.cleared.ToClear.{ToClear}
 use Rattle.bf_report.specs.declared.report.Report.{Report}
@@ -32,15 +34,18 @@ use Rattle.bf_disk.specs.declared.journals.OpenFault.{OpenFault}
 abbrev pub of_open : List ℕ → OpenFault → CommandFault
 of_open path OpenFault.CannotRead = CannotRead path
 of_open path OpenFault.InUse = JournalInUse
+of_open path OpenFault.OfAnother = BadJournal JournalFault.Mismatch
 of_open path OpenFault.OutOfMemory = OutOfMemory
 
--- a journal that is asked for can't be opened: no bytes are told of it; or memory is wanting
-abbrev pub IsFaultOfOpening : Files → JournalAsked → CommandFault → Type 0
-IsFaultOfOpening journals asked (CannotRead path) =
+-- a journal that is asked for can't be opened: no bytes are told of it; or it has another head than this; or memory is wanting
+abbrev pub IsFaultOfOpening : Files → JournalAsked → List ℕ → CommandFault → Type 0
+IsFaultOfOpening journals asked head (CannotRead path) =
     (path ≡ string_bytes asked.path) × IsUnopened journals asked
-IsFaultOfOpening journals asked JournalInUse = IsUnopened journals asked
-IsFaultOfOpening journals asked OutOfMemory = Unit {0}
-IsFaultOfOpening journals asked fault = ⊥
+IsFaultOfOpening journals asked head JournalInUse = IsUnopened journals asked
+IsFaultOfOpening journals asked head (BadJournal JournalFault.Mismatch) =
+    OfJournal journals asked (IsOfAnother head)
+IsFaultOfOpening journals asked head OutOfMemory = Unit {0}
+IsFaultOfOpening journals asked head fault = ⊥
 
 -- where a backfill ends with this fault that records its tries in the path's journal
 abbrev pub journaled_fault : List ℕ → CommandFault → CommandFault
@@ -51,9 +56,9 @@ journaled_fault path fault = fault
 abbrev pub IsFaultOfJournaledBackfill : Files → JournalAsked → Ledger → Heading → Option (List ℕ)
     → Dag → List Interval → CommandFault → Type 0
 IsFaultOfJournaledBackfill journals asked before cleared logs dag found (CannotRead path) =
-    IsFaultOfOpening journals asked (CannotRead path)
+    (path ≡ string_bytes asked.path) × IsUnopened journals asked
 IsFaultOfJournaledBackfill journals asked before cleared logs dag found JournalInUse =
-    IsFaultOfOpening journals asked JournalInUse
+    IsUnopened journals asked
 IsFaultOfJournaledBackfill journals asked before cleared logs dag found (CannotWriteFile path) =
     path ≡ string_bytes asked.path
 IsFaultOfJournaledBackfill journals asked before cleared logs dag found (BadJournal fault) =
