@@ -1,6 +1,6 @@
 #!/usr/bin/env bash
-# Runs each command line of `./backfill`, `jq` and `grep` that stands in a fenced block of these pages, from the root of the repository, with
-# a folder of its own in the place of /tmp. Compares what it prints with the block below it where the page says that it prints that, and with
+# Runs each command line of `./backfill`, `jq`, `grep` and `python3 -m backfill_airflow` that stands in a fenced block of these pages, from the root of the
+# repository, with a folder of its own in the place of /tmp. Compares what it prints with the block below it where the page says that it prints that, and with
 # the file where the page says that the same stands in it; and its exit status with the one that the page tells, else with 0 or 1. A block of
 # JSON above a command line has to be the graph file that the line names, and a list the table. Each folder of examples/ has a heading in its
 # page, and each report in it is compared. The last line is the sum, and the status is 1 where something differs. Other pages may be named,
@@ -8,6 +8,8 @@
 set -euo pipefail
 
 source "$(dirname "$(readlink -f "${BASH_SOURCE[0]}")")/../shared/count.sh"
+# What a clone takes to read DAG files. What these write to the folder of temporary files stays out of it.
+export PYTHONPATH=$root/python PYTHONPYCACHEPREFIX=$work/bytecode TMPDIR=$work/tmp
 pages=("$@")
 [[ $# -gt 0 ]] || pages=("$root/README.md" "$root/docs/GUIDE.md" "$root/examples/README.md" "$root/docs/FROM_AIRFLOW.md")
 
@@ -28,22 +30,44 @@ compare_shown() {
     rm "$work/shown"
 }
 
+# A line is left out, for want of what it takes.
+leave_out() {
+    skips "a line of $page, since there is no $1"
+    [[ -z $file ]] || realpath "$file" >> "$work/compared"
+    command=''
+    told=''
+    file=''
+    rm -f "$work/wanted"
+}
+
+# The graph of a DAG file that the line names, if it names one.
+graph_of_dag_file() {
+    [[ $command =~ /tmp/([a-z_]+\.json)(\ |$) ]] && echo "$work/tmp/${BASH_REMATCH[1]}"
+}
+
 # Runs the command line that was met, now that all that the page says of it is read.
 run_met() {
-    local status=0
+    local status=0 graph
     [[ -n $command ]] || return 0
+    graph=$(graph_of_dag_file || true)
     if [[ -z $(command -v "${command%% *}") ]]; then
-        skips "a line of $page, since there is no ${command%% *}"
-        command=''
-        rm -f "$work/wanted"
+        leave_out "${command%% *}"
+        return
+    elif [[ -n $graph && $command == ./* && ! -e $graph ]]; then
+        leave_out "$graph"
         return
     fi
     rows=$((rows + 1))
     bash -c "${command//\/tmp\//$work/tmp/}" > "$work/out" 2> "$work/err" < /dev/null || status=$?
-    if [[ $status -gt 1 || $status -ne ${told:-$status} ]]; then
+    if [[ $status -eq 2 && $command == python3* ]] && grep -q jinja2 "$work/err"; then
+        rows=$((rows - 1))
+        rm -f "$graph"
+        leave_out jinja2
+        return
+    elif [[ $status -gt 1 || $status -ne ${told:-$status} ]]; then
         other "with status $status"
         cat "$work/err"
-    elif [[ -s $work/err ]]; then
+    elif [[ -s $work/err && -z $graph ]]; then
         other 'with words on standard error'
         cat "$work/err"
     elif [[ -e $work/wanted ]] && ! diff "$work/wanted" "$work/out"; then
@@ -82,7 +106,7 @@ inside() {
         json) echo "$1" >> "$work/shown" ;;
         report) echo "$1" >> "$work/wanted" ;;
         lines)
-            [[ $1 =~ ^(\./backfill|jq|grep)\  ]] || return 0
+            [[ $1 =~ ^(\./backfill|jq|grep|python3\ -m\ backfill_airflow)\  ]] || return 0
             run_met
             command=$1
             [[ ! -e $work/shown ]] || compare_shown
@@ -103,7 +127,7 @@ look_at_folders() {
         rows=$((rows + 1))
         command=$report
         grep -qxF "$root/$report" "$work/compared" || other 'no command line prints it'
-    done < <(grep -l '^@backfill ' examples/*/*)
+    done < <(grep -ld skip '^@backfill ' examples/*/*)
 }
 
 cd "$root"

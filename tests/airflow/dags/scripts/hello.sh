@@ -1,0 +1,1 @@
+echo "hello {{ ds }} {{ params.who }}"

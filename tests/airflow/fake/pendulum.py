@@ -1,0 +1,5 @@
+"""As much of pendulum as is used beside it."""
+
+
+def instance(moment):
+    return moment

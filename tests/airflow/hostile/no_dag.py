@@ -1,0 +1,4 @@
+# status 2
+# says refused: hostile/no_dag.py
+# says no DAG
+import airflow
