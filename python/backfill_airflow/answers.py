@@ -4,7 +4,7 @@ from __future__ import annotations
 
 import json
 
-from .codec import Bundle, encode, encode_pairs
+from .codec import Bundle, as_pushed, encode, encode_pairs
 from .errors import AirflowException
 from .groups import ids_in_graph, lone_source
 
@@ -22,14 +22,26 @@ def answer(task: Any, result: Any, pushed: Dict[str, Any]) -> str:
     result = _returned(task, result, pushed)
     what = f"what {task.task_id} pushes"
     if keys:
-        for name, value in keys.items():
-            encode(value, f"{what} as {name!r}", most=None)
-        return encode_bundle(keys, result, what)
+        return _line_of_keys(task, keys, result, what)
     if not task.is_mapped and isinstance(result, (dict, tuple, set)) and _is_expanded_over(task):
         if isinstance(result, dict):
             return encode_pairs(result, what)
         raise AirflowException(f"a task is expanded over {task.task_id}, which pushes a {type(result).__name__}: Airflow takes a list or a dict")
     return encode(result, what)
+
+
+def _line_of_keys(task: Any, keys: Dict[str, Any], result: Any, what: str) -> str:
+    """The line of a task that has pushed under keys of its own. Several outputs are pushed after them."""
+    if not task.is_mapped and _is_expanded_over(task):
+        raise AirflowException(
+            f"a task is expanded over {task.task_id}, which pushes more than the list: {', '.join(keys)}; push that in another task, "
+            "or expand over .map(lambda each: each) of this one"
+        )
+    if task.multiple_outputs and result is not None:
+        keys, result = {**keys, **result}, as_pushed(result)
+    for name, value in keys.items():
+        encode(value, f"{what} as {name!r}", most=None)
+    return encode_bundle(keys, result, what)
 
 
 def encode_bundle(keys: Dict[str, Any], result: Any, what: str) -> str:
@@ -84,7 +96,8 @@ def _returned(task: Any, result: Any, pushed: Dict[str, Any]) -> Any:
                 raise AirflowException(
                     f"Returned dictionary keys must be strings when using multiple_outputs, found {key} ({type(key)}) instead"
                 )
-    return result
+        return {key: as_pushed(each) for key, each in result.items()}
+    return as_pushed(result)
 
 
 def _is_expanded_over(task: Any) -> bool:

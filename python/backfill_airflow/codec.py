@@ -22,7 +22,7 @@ TYPE_CHECKING = False
 if TYPE_CHECKING:
     from typing import Any, Dict, Optional
 
-__all__ = ["Bundle", "CodecError", "Pair", "SKIPPED_ITEM", "TAG", "decode_value", "decode_word", "encode", "encode_pairs"]
+__all__ = ["Bundle", "CodecError", "Pair", "SKIPPED_ITEM", "TAG", "as_pushed", "decode_value", "decode_word", "encode", "encode_pairs"]
 
 MOST_BYTES = 65_536
 # So many lists in one another go as they are; `backfill` keeps 64, of which a list of all instances' values takes one.
@@ -32,6 +32,24 @@ MOST_ITEMS = 1_024
 
 class _TooDeep(Exception):
     pass
+
+
+def as_pushed(value: Any) -> Any:
+    """A value as Airflow's XCom hands it on: JSON makes lists of the tuples in lists and dicts; a tuple that is the whole value stays one."""
+    if isinstance(value, tuple):
+        return tuple(value)
+    try:
+        return _without_tuples(value)
+    except RecursionError:
+        return value
+
+
+def _without_tuples(value: Any) -> Any:
+    if isinstance(value, (list, tuple)):
+        return [_without_tuples(each) for each in value]
+    if isinstance(value, dict):
+        return {key: _without_tuples(each) for key, each in value.items()}
+    return value
 
 
 def _is_json(text: str) -> bool:
@@ -49,7 +67,10 @@ def _is_ambiguous(text: str) -> bool:
 
 def _text(value: Any, path: str) -> str:
     """The text that stands for a value without a form. (A list as JSON would be read as the list.)"""
-    made = plain(value, path)
+    try:
+        made = plain(value, path)
+    except RecursionError:
+        raise CodecError(f"{path} is nested too deep") from None
     return dumps(tagged("list", made) if isinstance(made, list) else made)
 
 

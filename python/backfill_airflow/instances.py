@@ -5,7 +5,7 @@ from __future__ import annotations
 import datetime as dt
 
 from . import moments
-from .codec import Bundle
+from .codec import Bundle, as_pushed
 from .errors import NOTSET, AirflowException
 
 TYPE_CHECKING = False
@@ -65,7 +65,7 @@ class TaskInstance:
 
     def xcom_push(self, key: str, value: Any, execution_date: Any = None, session: Any = None) -> None:
         """Pushes a value under a key, once the try has succeeded."""
-        self.pushed[key] = value
+        self.pushed[key] = as_pushed(value)
 
     def pull_of(self, operator: BaseOperator, key: Optional[str], default: Any = None) -> Any:
         """What a task has pushed under a key, or the default. Raises NotDeclared where the try wasn't given what that task pushed."""
@@ -124,7 +124,8 @@ def _under_key(operator: BaseOperator, value: Any, key: Optional[str], default: 
     if value is None:
         return default
     if key in (None, "return_value"):
-        return value
+        # (of several outputs each is a value of its own, and they are one together)
+        return as_pushed(value) if operator.multiple_outputs else value
     if operator.multiple_outputs and isinstance(value, dict):
         return value.get(key, default)
     return default

@@ -16,11 +16,11 @@ class Colour(str, Enum):
 
 VALUES = [
     "", "7", "null", "true", "[1]", '{"a": 1}', '"quoted"', " blank ", "two\nlines", "é ☃ \U0001f40d", "-", "NaN",
-    0, -1, 2**63, 1.5, 1e300, -0.0, float("inf"), None, True, [], [[]], [None, ["x", 1.5]], {}, {"a": {"b": [1, (2,)]}},
-    (1, 2), {1, 2}, frozenset(["a"]), Decimal("1.10"), datetime.date(2024, 2, 29), datetime.timedelta(days=1, seconds=2),
+    0, -1, 2**63, 1.5, 1e300, -0.0, float("inf"), None, True, [], [[]], [None, ["x", 1.5]], {}, {"a": {"b": [1, [2]]}},
+    [1, 2], {1, 2}, frozenset(["a"]), Decimal("1.10"), datetime.date(2024, 2, 29), datetime.timedelta(days=1, seconds=2),
     datetime.datetime(2024, 1, 2, 3, 4, 5, 6), datetime.datetime(2024, 1, 2, tzinfo=datetime.timezone.utc), {"__airflow__": "x"},
 ]
-SOME = ["", "7", 1.5, None, [None, ["x", 1.5]], {"a": {"b": [1, (2,)]}}, Decimal("1.10")]
+SOME = ["", "7", 1.5, None, [None, ["x", 1.5]], {"a": {"b": [1, [2]]}}, Decimal("1.10")]
 
 with DAG("values", start_date=datetime.datetime(2024, 1, 1), schedule="@daily"):
 
