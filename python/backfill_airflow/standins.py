@@ -14,7 +14,7 @@ from .unknown import MissingValue, Unknown, unknown, unknown_words
 
 TYPE_CHECKING = False
 if TYPE_CHECKING:
-    from typing import Any, Dict
+    from typing import Any, Dict, List
 
 __all__ = ["REPLACED", "TABLE", "MissingValue", "Unknown", "install", "unknown_words"]
 
@@ -30,11 +30,20 @@ class StandIn(types.ModuleType):
     def __getattr__(self, name: str) -> Any:
         if name in ("__version__", "version") and self.__name__ in ("airflow", "airflow.version"):
             return VERSION
+        if name == "__all__":
+            return _names_in(self.__name__)
         if name.startswith("__"):
             raise AttributeError(name)
         found = _find(self.__name__, name)
         setattr(self, name, found)
         return found
+
+
+def _names_in(module: str) -> List[str]:
+    """What `from MODULE import *` takes."""
+    if module not in TABLE:
+        raise Refused(f"from {module} import *: which names that has isn't known here", "import them by name", where=where())
+    return sorted(TABLE[module])
 
 
 def _find(module: str, name: str) -> Any:
