@@ -95,6 +95,8 @@ class BaseOperator(SetupTeardownMarks, DependencyMixin, metaclass=OperatorMeta):
         self.label = self.task_id = task_id
         dag = dag or (task_group.dag if task_group is not None else current_dag())
         self._settle_arguments(f" in dag {dag.dag_id}" if dag is not None else "")
+        own_params, self.params = self.params, ParamsDict(dag.params if dag is not None else None)
+        self.params.update(own_params or {})
         self.upstream_edges: Dict[str, None] = {}
         self.upstream_task_ids: Set[str] = set()
         self.downstream_task_ids: Set[str] = set()
@@ -123,7 +125,6 @@ class BaseOperator(SetupTeardownMarks, DependencyMixin, metaclass=OperatorMeta):
         self.trigger_rule = str(getattr(self.trigger_rule, "value", self.trigger_rule))
         self.weight_rule = getattr(self.weight_rule, "value", self.weight_rule)
         self.start_date, self.end_date = aware(self.start_date), aware(self.end_date)
-        self.params = ParamsDict(self.params)
         self.inlets, self.outlets = list(each_of(self.inlets or [])), list(each_of(self.outlets or []))
         if self.max_retry_delay is not None and not isinstance(self.max_retry_delay, dt.timedelta):
             self.max_retry_delay = dt.timedelta(seconds=self.max_retry_delay)

@@ -9,7 +9,7 @@ from .base_operator import BASE_ARGUMENTS, BaseOperator
 from .operator_meta import takes
 from .reading import Reading, current_dag, where
 from .task_group import MappedArgument
-from .xcom_arg import RETURN_VALUE, XComArg, items_of, resolved
+from .xcom_arg import RETURN_VALUE, XComArg, items_of, resolved, within
 
 TYPE_CHECKING = False
 if TYPE_CHECKING:
@@ -126,8 +126,26 @@ class MappedOperator(BaseOperator):
             raise AirflowException(f"expand_kwargs() expects a list[dict], but an item is of type {type(item).__name__}")
         return dict(item)
 
+    def literals(self) -> Dict[str, List[Any]]:
+        """Of the arguments whose values all stand in the DAG file these values, which are rendered. (What tasks pushed isn't.)"""
+        made: Dict[str, List[Any]] = {}
+        if self.over is None:
+            made = {key: items_of(value) for key, value in self.mapped.items() if isinstance(value, (list, tuple, dict))}
+        elif isinstance(self.over, (list, tuple)):
+            for each in self.over:
+                for key, value in each.items() if isinstance(each, dict) else ():
+                    made.setdefault(key, []).append(value)
+        return {key: values for key, values in made.items() if next(within(values), None) is None}
+
+    def in_templates(self) -> Dict[str, Any]:
+        """The arguments that are rendered, of which an expanded one has a list of its values."""
+        literals = self.literals()
+        if self.into:
+            literals = {self.into: [self.partial_kwargs.get(self.into), literals]}
+        return {**self.partial_kwargs, **literals}
+
     def unmap(self, item: Any) -> Any:
-        """The task of one item, whose values of it aren't rendered."""
+        """The task of one item, of which what tasks pushed isn't rendered."""
         values = self._values_of(item)
         arguments = {key: value for key, value in self.partial_kwargs.items() if key != "default_args"}
         if self.into:
@@ -140,9 +158,10 @@ class MappedOperator(BaseOperator):
             task = self.operator_class(task_id=self.label, default_args=defaults, **arguments)
         finally:
             Reading.open_dags, Reading.unmapping = opened, False
-        task.task_id, task._dag, task.task_group = self.task_id, self.dag, self.task_group
+        task.task_id, task._dag, task.task_group, task.params = self.task_id, self.dag, self.task_group, self.params
         task.upstream_edges = self.upstream_edges
         task.upstream_task_ids, task.downstream_task_ids = self.upstream_task_ids, self.downstream_task_ids
-        task.unrendered = set() if self.into else set(values)
-        task.unrendered_into = (self.into, set(values)) if self.into else None
+        pushed = set(values) - set(self.literals())
+        task.unrendered = set() if self.into else pushed
+        task.unrendered_into = (self.into, pushed) if self.into else None
         return task

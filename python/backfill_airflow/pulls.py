@@ -41,7 +41,8 @@ class Scan:
         self.operator: Any = task.operator_class if task.is_mapped else type(task)
         self.exts: Sequence[str] = self.operator.template_ext
         keys = task.partial_kwargs if task.is_mapped else vars(task)
-        self.fields = {field: keys.get(field) if task.is_mapped else getattr(task, field, None) for field in self.operator.template_fields}
+        rendered = task.in_templates() if task.is_mapped else {}
+        self.fields = {field: rendered.get(field) if task.is_mapped else getattr(task, field, None) for field in self.operator.template_fields}
         self.callable = keys.get("python_callable")
         self._source = SourceScan(self, dict(keys.get("op_kwargs") or {}), folders)
 
