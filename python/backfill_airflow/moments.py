@@ -334,13 +334,18 @@ class DateTime(dt.datetime):
         except ImportError:
             pass
         if pendulum is None or getattr(pendulum, "STAND_IN", False):
-            raise AttributeError(f"DateTime.{name} isn't in backfill_airflow: install pendulum, and import it in the DAG file")
+            raise AttributeError(lacking(name))
         return pendulum_moment(pendulum, self)
 
     def __getattr__(self, name: str) -> Any:
         if name.startswith("_"):
             raise AttributeError(name)
         return getattr(self._pendulum(name), name)
+
+
+def lacking(name: str) -> str:
+    """What is said of a method of pendulum that isn't here."""
+    return f"DateTime.{name} isn't in backfill_airflow: install pendulum, and import it in the DAG file"
 
 
 def separator() -> str:

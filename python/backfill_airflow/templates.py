@@ -5,6 +5,7 @@ from __future__ import annotations
 import os
 
 from .errors import AirflowException
+from .moments import DateTime, lacking
 from .quick_templates import plain_text, without_marks
 from .xcom_arg import ResolveMixin
 
@@ -28,7 +29,7 @@ def environment(dag: Any) -> Any:
         import jinja2
     except ImportError:
         raise AirflowException("a template is used, and jinja2 isn't installed: pip install jinja2") from None
-    options: Dict[str, Any] = {"extensions": ["jinja2.ext.do"], "cache_size": 0, "undefined": dag.template_undefined or jinja2.StrictUndefined}
+    options: Dict[str, Any] = {"extensions": ["jinja2.ext.do"], "cache_size": 0, "undefined": dag.template_undefined or _undefined(jinja2.StrictUndefined)}
     options["loader"] = jinja2.FileSystemLoader([dag.folder, *dag.template_searchpath])
     options.update(dag.jinja_environment_kwargs)
     env: Any
@@ -52,6 +53,17 @@ def environment(dag: Any) -> Any:
     env.filters.update(dag.user_defined_filters)
     env.globals.update(dag.user_defined_macros)
     return env
+
+
+def _undefined(strict: Any) -> Any:
+    """Jinja's class of undefined values, which says of a moment's method that isn't here what it takes."""
+
+    def init(self: Any, hint: Optional[str] = None, **told: Any) -> None:
+        if hint is None and isinstance(told.get("obj"), DateTime):
+            hint = lacking(told["name"])
+        strict.__init__(self, hint, **told)
+
+    return type("Undefined", (strict,), {"__init__": init, "__slots__": ()})
 
 
 def file_text(dag: Any, name: str) -> Optional[str]:
