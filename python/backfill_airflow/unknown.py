@@ -21,6 +21,8 @@ def unknown_words(origin: str, **ids: str) -> Tuple[str, str]:
         f"a module of your own that has a class {name} (a BaseOperator with execute(context), or a plain class), given by --with MODULE; "
         "or a BashOperator or @task that does the same"
     )
+    if name[:1].islower() and ".providers." not in origin:
+        general = "do without it: there is no database or server of Airflow here"
     return f"{origin} isn't in backfill_airflow", instead_of(name, **ids) or general
 
 

@@ -5,6 +5,7 @@ from airflow import DAG
 from airflow.operators.python import ExternalPythonOperator, PythonOperator, PythonVirtualenvOperator
 from airflow.providers.postgres.hooks.postgres import PostgresHook
 from airflow.providers.postgres.operators.postgres import PostgresOperator
+from airflow.utils.session import create_session
 from airflow.operators.email import EmailOperator
 from airflow.operators.latest_only import LatestOnlyOperator
 from airflow.operators.trigger_dagrun import TriggerDagRunOperator
@@ -17,6 +18,11 @@ def read():
     return PostgresHook("dw").get_first("select 1")
 
 
+def asks():
+    with create_session() as session:
+        return session
+
+
 def within():
     from airflow.providers.amazon.aws.hooks.s3 import S3Hook  # refused: task within: airflow.providers.amazon.aws.hooks.s3.S3Hook isn't in backfill_airflow | a module of your own that has a class S3Hook (a BaseOperator with execute(context), or a plain class), given by --with MODULE; or a BashOperator or @task that does the same
 
@@ -26,6 +32,7 @@ def within():
 with DAG("providers", start_date=datetime(2024, 1, 1), schedule="@daily"):
     PythonOperator(task_id="read", python_callable=read)  # refused: task read: airflow.providers.postgres.hooks.postgres.PostgresHook isn't in backfill_airflow | a module of your own that has a class PostgresHook (a BaseOperator with execute(context), or a plain class), given by --with MODULE; or a BashOperator or @task that does the same
     PythonOperator(task_id="within", python_callable=within)
+    PythonOperator(task_id="asks", python_callable=asks)  # refused: task asks: airflow.utils.session.create_session isn't in backfill_airflow | do without it: there is no database or server of Airflow here
     PostgresOperator(task_id="create", postgres_conn_id="dw", sql="create table t ()")  # refused: task create: airflow.providers.postgres.operators.postgres.PostgresOperator isn't in backfill_airflow | a module of your own that has a class PostgresOperator (a BaseOperator with execute(context), or a plain class), given by --with MODULE; or a BashOperator or @task that does the same
     PostgresOperator.partial(task_id="each", postgres_conn_id="dw").expand(sql=["select 1"])  # refused: task each: airflow.providers.postgres.operators.postgres.PostgresOperator isn't in backfill_airflow | a module of your own that has a class PostgresOperator (a BaseOperator with execute(context), or a plain class), given by --with MODULE; or a BashOperator or @task that does the same
     EmailOperator(task_id="mail", to="a@example.com", subject="s", html_content="h")  # refused: task mail: airflow.operators.email.EmailOperator isn't in backfill_airflow | a @task that sends by smtplib
