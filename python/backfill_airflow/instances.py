@@ -33,6 +33,12 @@ class DagRun:
         self.start_date = self.queued_at = moments.moment(dt.datetime.now(dt.timezone.utc))
         self.state = "running"
 
+    def __repr__(self) -> str:
+        return (
+            f"<DagRun {self.dag_id} @ {self.execution_date}: {self.run_id}, state:{self.state}, queued_at: {self.queued_at}. "
+            f"externally triggered: {self.external_trigger}>"
+        )
+
 
 class TaskInstance:
     """The instance of a task in a run. `given` has what the try pulls, by the ids of the tasks that pushed it: of an expanded task, and of one in a
@@ -50,6 +56,10 @@ class TaskInstance:
         self.pool, self.queue, self.operator = task.pool, task.queue or "default", task.task_type
         self.given = given
         self.pushed: Dict[str, Any] = {}
+
+    def __repr__(self) -> str:
+        index = f"map_index={self.map_index} " if self.map_index != -1 else ""
+        return f"<TaskInstance: {self.dag_id}.{self.task_id} {self.run_id} {index}[{self.state}]>"
 
     @property
     def key(self) -> Any:

@@ -1,4 +1,5 @@
-"""What comes of a value on its way from a task to others: tuples in it, entries of a dict, and outputs beside keys that the task pushed itself."""
+"""What comes of a value on its way from a task to others: tuples in it, entries of a dict, outputs beside keys that the task pushed
+itself, and what a run and an instance are as texts."""
 
 from datetime import datetime
 
@@ -45,6 +46,10 @@ with DAG("pushed_values", start_date=datetime(2024, 1, 1), schedule="@daily", de
         return [1, 2]
 
     @task
+    def as_texts(ti=None, dag_run=None):
+        return [str(ti), str(dag_run).split(" @ ")[0]]
+
+    @task
     def skips():
         raise AirflowSkipException("by a name that * gave")
 
@@ -56,4 +61,5 @@ with DAG("pushed_values", start_date=datetime(2024, 1, 1), schedule="@daily", de
     see.override(task_id="outputs_seen")([made["x"], made["y"], made["other"], made])
     see.override(task_id="outputs_alone_seen")([alone["y"], alone["z"], alone])
     same.override(task_id="over_rows_and_key").expand(value=rows_and_key())
+    as_texts()
     skips()
