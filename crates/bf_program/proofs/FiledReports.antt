@@ -6,7 +6,7 @@ use Rattle.bf_file.specs.declared.call.Placed.{Placed}
 use Rattle.bf_file.specs.declared.fault.PlaceFault.{PlaceFault}
 use Rattle.bf_file.specs.declared.fault.ReplaceFault.{ReplaceFault}
 use Rattle.bf_file.specs.Pages.{HasLeftBy, HasReplacedBy}
-use Rattle.bf_file.specs.Replacing.{HasLeft, HasReplaced, only_writes, text_by}
+use Rattle.bf_file.specs.Replacing.{HasLeft, HasReplaced, text_by}
 use Rattle.bf_command_fault.specs.Refusal.{Leaves, Sends}
 use Rattle.bf_command_fault.specs.declared.fault.CommandFault.{CommandFault}
 use Rattle.bf_command_fault.specs.declared.fault.CommandFault.TheVariants.{CannotWriteFile, CannotWrite, OutOfMemory, ReportLeft}
@@ -59,11 +59,6 @@ left_by IsText status (Some told) before after path empty full none sends (Place
   (status, sends.1),
   subst (HasLeftBy before after (PlaceFault.Left name)) (sends.2 ∙ ap (λ e. sent e sends.0) none) left,
 )
-
-pub empty_page : (before : Option (List Placed)) (calls : Option (List Call))
-    → calls ≡ option_map (λ _. []) before → only_writes calls ≡ true
-empty_page None calls is = ap only_writes is
-empty_page (Some before) calls is = ap only_writes is
 
 pub empty_text : (before : Option (List Placed)) (calls : Option (List Call))
     → calls ≡ option_map (λ _. []) before → option_map text_by calls ≡ option_map (λ _. []) before
@@ -138,17 +133,8 @@ module _ (may_lose : Losing) (files : Files) (machine : Machine) (leads : Leads)
   unreplaced_fault path HasFailed a ReplaceFault.CannotReplace failed = inl (refl, inl failed)
   unreplaced_fault path HasFailed a ReplaceFault.OutOfMemory failed = tt
 
-  -- or may be the folder of logs
-  pub logs_fault : (path : List ℕ) (HasFailed : Type 0) (a : Asked) → MayLead leads.same (logs_of a) path
-      → IsFaultBy leads (Some path) HasFailed may_lose files machine a (CannotWriteFile path)
-  logs_fault path HasFailed a lead = inl (refl, inr lead)
-
   -- or the new file isn't at its path
   pub unplaced_fault : (path : List ℕ) (HasFailed : Type 0) (a : Asked) (fault : PlaceFault) → HasFailed
       → IsFaultBy leads (Some path) HasFailed may_lose files machine a (placing_fault path fault)
   unplaced_fault path HasFailed a (PlaceFault.Lost fault) failed = unreplaced_fault path HasFailed a fault failed
   unplaced_fault path HasFailed a (PlaceFault.Left name) failed = (refl, failed)
-
--- ---- all of these
-
-pub ruleset filing = (replaced_by, left_by, empty_page, empty_text, unplaced_leaves, unfiled_leaves, fault_by_file, unreplaced_fault, logs_fault, unplaced_fault)
